@@ -1,0 +1,12 @@
+pub mod Kinds
+pub mod Layouts
+pub mod Diagrams
+pub mod Tasks
+pub mod TwoKinds
+pub mod Building
+pub mod Sizes
+pub mod Sheets
+pub mod Reading
+pub mod Places
+pub mod Theorems
+pub mod Written
