@@ -18,10 +18,10 @@ begun-valid n h k = record {
   mark-level = λ i p. refl;
 }
 
-swapped-within : (n l m k : ℕ) → l < n → m < n → k < n → swapped l m k < n
+pub swapped-within : (n l m k : ℕ) → l < n → m < n → k < n → swapped l m k < n
 swapped-within n l m k p q r = grind arith
 
-swapped-twice : (l m k : ℕ) → swapped l m (swapped l m k) ≡ k
+pub swapped-twice : (l m k : ℕ) → swapped l m (swapped l m k) ≡ k
 swapped-twice l m k = grind arith
 
 pub exchanged-valid : (L : Layout) (l m : ℕ) → l < L .size → m < L .size → Valid L → Valid (exchanged l m L)

@@ -2,9 +2,8 @@
 use mathlib.Core.Path.{_≡_}
 use mathlib.Core.List.{List, [], _∷_}
 use mathlib.Core.Logic.{_↔_, _⊎_}
-use Prim.Native.Nat.{ℕ, _≤_, _<_}
+use Prim.Native.Nat.{ℕ, _≤_}
 use lib.ListN.{length, take}
-use Rattle.std.specs.shelf.Lists.{All}
 use Rattle.std.specs.declared.option.Option.the-variants.{Some}
 use Rattle.diagrams.specs.Kinds.{Kind}
 use Rattle.diagrams.specs.Layouts.{Layout}
@@ -35,7 +34,7 @@ pub record Reads (K : Kind) (L : Layout) (m : Model) (s : List ℕ) (a : Answer)
 -- What is true of a call that was answered by a step: the step, and for a read what it accepts.
 pub record Told (K : Kind) (L : Layout) (m : Model) (q : Asked) (a : Answer) (n : Model) : Type 0 where
   pub step : Step K L m q a n
-  pub reads : (s : List ℕ) → q .call ≡ read s → All (λ b. b < 256) s → capacity m ≤ length (q .walk) → Reads K L m s a n
+  pub reads : (s : List ℕ) → q .call ≡ read s → capacity m ≤ length (q .walk) → Reads K L m s a n
 
 module _ (K : Kind) where
   -- The promise of a call: on a table to which steps lead from its making, it takes a step.

@@ -1,0 +1,2 @@
+// Building rules in the places of a table. Each function borrows the parts of a table that it needs; undoing and forgetting are left to the table.
+pub mod simple;

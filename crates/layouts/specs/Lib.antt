@@ -1,0 +1,3 @@
+pub mod Capacities
+pub mod Forms
+pub mod View
