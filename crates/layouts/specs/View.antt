@@ -1,15 +1,12 @@
 -- The layout that the code's record means, and what the calls on it tell. Assumes nothing.
-use mathlib.Core.Bool.{cond}
 use mathlib.Core.List.{List}
-use Prim.Native.Nat.{ℕ, _^_}
-use lib.Dec.{ltb}
+use Prim.Native.Nat.{ℕ}
 use lib.ListN.{getD}
 use Rattle.std.specs.declared.result.Result.{Result}
 use Rattle.std.specs.declared.result.Result.the-variants.{Ok, Err}
 use Rattle.diagrams.specs.Layouts.{Setting, laid, denied, Layout as Plan}
 use Rattle.refusals.specs.Refusals.{number}
 use Rattle.refusals.specs.declared.refusal.Refusal.{Refusal}
-use Rattle.refusals.specs.declared.refusal.Refusal.the-variants.{NotAFruit}
 use Rattle.layouts.specs.Forms.{decomposition}
 use Rattle.layouts.specs.declared.form.Form.{Form}
 use Rattle.layouts.specs.declared.form.Form.the-variants.{Shannon}
@@ -33,7 +30,3 @@ view y = arranged (y .size) (y .marks) (y .levels) (y .forms)
 abbrev pub told : {X : Type 0} → (X → Plan) → Result X Refusal → Setting
 told after (Ok x) = laid (after x)
 told after (Err e) = denied (number e)
-
--- A fruit is let pass, another word is refused.
-abbrev pub ripe : Plan → ℕ → Result (Unit {0}) Refusal
-ripe L word = cond (ltb word (2 ^ L .size)) (Ok tt) (Err NotAFruit)

@@ -6,7 +6,7 @@ ghost use lib.ListN.{getD};
 ghost use Rattle.std.specs.Results.{isOk};
 ghost use Rattle.diagrams.specs.Layouts as plan;
 ghost use Rattle.layouts.specs.Forms.{decomposition};
-ghost use Rattle.layouts.specs.View.{view, told, ripe};
+ghost use Rattle.layouts.specs.View.{view, told};
 use super::Layout;
 use crate::form::Form;
 use refusals::Refusal;
@@ -102,16 +102,6 @@ impl Layout {
         u64::from(word) < 1u64 << self.size
     }
 
-    /// Refuses a word that is no fruit of this layout.
-    pub fn check_fruit(&self, word: u32) -> Result<(), Refusal>
-        ensures { λ r. ⌜ r ≡ ripe (view (now (self .entry))) word ⌝ }
-    {
-        if self.is_fruit(word) {
-            Ok(())
-        } else {
-            Err(Refusal::NotAFruit)
-        }
-    }
 }
 
 // Each number at its own place.

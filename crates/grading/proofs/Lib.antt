@@ -1,0 +1,3 @@
+pub mod Pending
+pub mod Stacking
+pub mod Adding
