@@ -31,9 +31,9 @@ module _ (K : Kind) (L : Layout) (P : Diagram → Type 0) where
   toward-start f p t s = record {
     extends = stays t;
     only = λ h u.
-      let w = s .good h (seen-live L f p t h u) in
-      let st = stands-seen L f p t (w .0) h (w .2) in
-      (w .0, w .1, st, inl (h, st));
+        let w = s .good h (seen-live L f p t h u) in
+        let st = stands-seen L f p t (w .0) h (w .2) in
+        (w .0, w .1, st, inl (h, st));
   }
 
   -- A place that is given to a good diagram with P.
@@ -41,8 +41,8 @@ module _ (K : Kind) (L : Layout) (P : Diagram → Type 0) where
   toward-given {t} {u} {v} {c} {h} w n d st g has = record {
     extends = then (w .extends) (n .extends);
     only = λ k used.
-      ⊎-elim (λ old. let o = w .only k old in (o .0, o .1, stands-still (n .extends) (o .0) k (o .2), o .3))
-      (λ e. (d, g, subst (Stands (holds v) d) (sym e) st, inr has)) (given-only n k used);
+        ⊎-elim (λ old. let o = w .only k old in (o .0, o .1, stands-still (n .extends) (o .0) k (o .2), o .3))
+        (λ e. (d, g, subst (Stands (holds v) d) (sym e) st, inr has)) (given-only n k used);
   }
 
   -- At the end all diagrams with P are in use.
@@ -51,15 +51,15 @@ module _ (K : Kind) (L : Layout) (P : Diagram → Type 0) where
     room = seen-room L g q u ∙ w .extends .room ∙ sym (seen-room L f p t);
     kept = λ h l. seen-place L g q u h ∙ w .extends .same h (live-seen L f p t h l) ∙ sym (seen-place L f p t h);
     started = λ h n.
-      ap (λ (x : Place). x .count) (seen-place L g q u h)
-      ∙ ⊎-elim (λ used. w .extends .fresh h (unused h n) used) (λ none. ap (λ (x : Place). x .count) (unused-vacant u h none)) (cases-bool (in-use (holds u h)));
+        ap (λ (x : Place). x .count) (seen-place L g q u h)
+        ∙ ⊎-elim (λ used. w .extends .fresh h (unused h n) used) (λ none. ap (λ (x : Place). x .count) (unused-vacant u h none)) (cases-bool (in-use (holds u h)));
     gained = λ d has. let r = all d has in (r .0, seen-stands L g q u d (r .0) (r .1));
     only = λ h l.
-      let o = w .only h (live-seen L g q u h l) in (
-        o .0,
-        seen-stands L g q u (o .0) h (o .2),
-        ⊎-elim (λ old. inl (old .0, seen-stands L f p t (o .0) (old .0) (old .1))) (λ new. inr new) (o .3),
-      );
+        let o = w .only h (live-seen L g q u h l) in (
+          o .0,
+          seen-stands L g q u (o .0) h (o .2),
+          ⊎-elim (λ old. inl (old .0, seen-stands L f p t (o .0) (old .0) (old .1))) (λ new. inr new) (o .3),
+        );
     unshared = seen-unshared L g q u;
   }
     where
@@ -72,6 +72,6 @@ module _ (K : Kind) (L : Layout) (P : Diagram → Type 0) where
   toward-full f p {t} {u} w n d told has =
       places-outnumber (model L f p t) (holds u) P (unshared u)
       (λ h lt.
-        let o = w .only h (n .full h (omega (arith, seen-room L f p t, w .extends .room))) in
-        (o .0, o .2, ⊎-elim (λ old. inl (old .0, seen-stands L f p t (o .0) (old .0) (old .1))) (λ new. inr new) (o .3)))
+      let o = w .only h (n .full h (omega (arith, seen-room L f p t, w .extends .room))) in
+      (o .0, o .2, ⊎-elim (λ old. inl (old .0, seen-stands L f p t (o .0) (old .0) (old .1))) (λ new. inr new) (o .3)))
       d (λ s. n .absent (s .0) (told (s .0) (s .1))) has

@@ -7,7 +7,7 @@ use lib.Dec.{T, eqb}
 use Rattle.diagrams.specs.Kinds.{Kind}
 use Rattle.diagrams.specs.Layouts.{Decomposition, shannon, positive, negative, Layout, bit}
 use Rattle.diagrams.specs.Diagrams.{Lawful, Diagram, leaf, node, join, rule, Good}
-use Rattle.diagrams.specs.Places.{Content, leaf-word, node-at, Stands}
+use Rattle.diagrams.specs.Places.{Content, Stands}
 use Rattle.diagrams.proofs.Nodes.{rule-value, good-up}
 use Rattle.places.specs.declared.places.Places.{Places}
 use Rattle.places.specs.Tables.{holds}

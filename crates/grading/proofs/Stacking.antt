@@ -10,7 +10,7 @@ use Rattle.diagrams.specs.Layouts.{Decomposition, shannon, positive, negative, 
 use Rattle.diagrams.specs.Places.{Content, free, leaf-word, node-at}
 use Rattle.places.specs.declared.places.Places.{Places}
 use Rattle.places.specs.Contents.{depth}
-use Rattle.places.specs.Tables.{holds, Under}
+use Rattle.places.specs.Tables.{holds}
 use Rattle.places.proofs.Extending.{node-under}
 use Rattle.grading.specs.Turns.{chosen, opened}
 

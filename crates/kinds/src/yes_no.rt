@@ -38,7 +38,7 @@ pub impl Value for YesNo as YesNoValue {
         if Self::is_value(a) && Self::is_value(b) {
             a ^ b
         } else {
-            Self::ZERO
+            Self::zero_word()
         }
     }
 
@@ -51,7 +51,7 @@ pub impl Value for YesNo as YesNoValue {
         if Self::is_value(a) && Self::is_value(b) {
             a & b
         } else {
-            Self::ZERO
+            Self::zero_word()
         }
     }
 }

@@ -118,4 +118,3 @@ module _ {V S : Type 0} (K : Kind) (entries : S → Entries) (start : Open V S) 
       subst (λ r. Step K plan before (plain (build b)) (gave r) (open-model entries after)) (sym (end .told))
       (subst (λ y. Step K plan before (plain (build b)) (gave (Err TableFull)) (model (view y) (entries (after .store)) opened (after .places))) (sym (end .layout))
       (subst (λ t. Step K plan before (plain (build b)) (gave (Err TableFull)) (model plan (entries (after .store)) opened t)) (sym (end .places ∙ same)) step))
-

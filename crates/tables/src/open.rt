@@ -19,6 +19,7 @@ use std::marker::PhantomData;
 use stores::Store;
 
 /// A table on which rules are built.
+#[derive(Drop)]
 pub struct Open<K: Value, S: Store> {
     pub(crate) layout: Layout,
     pub(crate) places: Places,
@@ -34,7 +35,12 @@ impl<K: Value, S: Store> Open<K, S> {
     {
         store.forget();
         let places = Places::fresh(capacity.get(), K::zero_word(), K::one_word());
-        Open { layout, places, store, kind: PhantomData }
+        Open {
+            layout,
+            places,
+            store,
+            kind: PhantomData,
+        }
     }
 
     /// The handle of a value's leaf.
@@ -80,7 +86,17 @@ impl<K: Value, S: Store> Open<K, S> {
     pub fn release(self) -> Released<K, S>
         ensures { λ r. ⌜ Kept (K·Value .kind) (open-model (S·Store .entries) self) (plain Release) (replies Done) (released-model (S·Store .entries) r) ⌝ }
     {
-        let Open { layout, places, store, kind } = self;
-        Released { layout, places, store, kind }
+        let Open {
+            layout,
+            places,
+            store,
+            kind,
+        } = self;
+        Released {
+            layout,
+            places,
+            store,
+            kind,
+        }
     }
 }

@@ -11,6 +11,7 @@ use std::marker::PhantomData;
 use stores::Store;
 
 /// A table by which fruit is graded; no rule is built on it.
+#[derive(Drop)]
 pub struct Released<K: Value, S: Store> {
     pub(crate) layout: Layout,
     pub(crate) places: Places,

@@ -101,7 +101,6 @@ impl Layout {
     {
         u64::from(word) < 1u64 << self.size
     }
-
 }
 
 // Each number at its own place.

@@ -19,7 +19,7 @@ returns g c =
     let ok : Lawful K (view (start .layout)) = record { laws = g .K·Value .laws; valid = layout-valid (start .layout) } in
     let val : T (K .value v) = subst T (sym (sym (c .is-value .ensures) ∙ c .if-not-is-value .left)) tt in
     keeps ok (λ sound.
-      settled-build K (g .S·Store .entries) start (constant v) (Tasks.constant v) ok sound refl val refl (λ k none. none)
-      (λ room. (passes (λ none. none val), (room, tt))) (λ full. inr (passes (λ none. none val), inl full))
-      (c .constant-answer .last .places) _ (c .settle .last .self) (c .constant-answer .result) (c .settle .result) (c .save-saved .ensures)
-      (c .constant-answer .ensures K (view (start .layout))) (c .settle .ensures))
+    settled-build K (g .S·Store .entries) start (constant v) (Tasks.constant v) ok sound refl val refl (λ k none. none)
+    (λ room. (passes (λ none. none val), (room, tt))) (λ full. inr (passes (λ none. none val), inl full))
+    (c .constant-answer .last .places) _ (c .settle .last .self) (c .constant-answer .result) (c .settle .result) (c .save-saved .ensures)
+    (c .constant-answer .ensures K (view (start .layout))) (c .settle .ensures))

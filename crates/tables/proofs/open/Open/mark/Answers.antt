@@ -20,7 +20,7 @@ returns g c =
     let ok : Lawful K (view (start .layout)) = record { laws = g .K·Value .laws; valid = layout-valid (start .layout) } in
     let inside : i < start .layout .size = omega arith in
     keeps ok (λ sound.
-      settled-build K (g .S·Store .entries) start (mark i) (Tasks.mark i) ok sound refl (omega arith, inside) refl (λ k none. none)
-      (λ room. (passes (λ far. omega arith), (room, tt))) (λ full. inr (passes (λ far. omega arith), inl full))
-      (c .mark-answer .last .places) _ (c .settle .last .self) (c .mark-answer .result) (c .settle .result) (c .save-saved .ensures)
-      (c .mark-answer .ensures) (c .settle .ensures))
+    settled-build K (g .S·Store .entries) start (mark i) (Tasks.mark i) ok sound refl (omega arith, inside) refl (λ k none. none)
+    (λ room. (passes (λ far. omega arith), (room, tt))) (λ full. inr (passes (λ far. omega arith), inl full))
+    (c .mark-answer .last .places) _ (c .settle .last .self) (c .mark-answer .result) (c .settle .result) (c .save-saved .ensures)
+    (c .mark-answer .ensures) (c .settle .ensures))

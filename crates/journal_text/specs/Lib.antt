@@ -1,0 +1,4 @@
+pub mod Hex
+pub mod Mistakes
+pub mod Numbers
+pub mod Scans

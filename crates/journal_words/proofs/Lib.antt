@@ -1,0 +1,4 @@
+pub mod Naming
+pub mod Scanning
+pub mod Tables
+pub mod Taking

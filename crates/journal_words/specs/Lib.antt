@@ -1,0 +1,4 @@
+pub mod Requests
+pub mod Takes
+pub mod Verbs
+pub mod Words

@@ -1,0 +1,4 @@
+pub mod Needed
+pub mod Known
+pub mod Sweeping
+pub mod Examples
