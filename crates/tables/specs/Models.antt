@@ -5,12 +5,15 @@ use Rattle.std.specs.declared.result.Result.{Result}
 use Rattle.std.specs.declared.result.Result.the-variants.{Ok, Err}
 use Rattle.histories.specs.Stores.{Entries}
 use Rattle.histories.specs.Tables.{opened, released, Model}
+use Rattle.histories.specs.Builds
 use Rattle.histories.specs.Requests.{Call, Asked, Reply, gives, refused, Answer}
 use Rattle.histories.specs.Steps.{layer}
 use Rattle.refusals.specs.Refusals.{number}
 use Rattle.refusals.specs.declared.refusal.Refusal.{Refusal}
 use Rattle.layouts.specs.View.{view}
 use Rattle.building.specs.Work.{model}
+use Rattle.tables.specs.declared.call.Build.{Build}
+use Rattle.tables.specs.declared.call.Build.the-variants.{Constant, Mark}
 use Rattle.tables.specs.declared.open.Open.{Open}
 use Rattle.tables.specs.declared.released.Released.{Released}
 
@@ -35,3 +38,8 @@ replies reply = record { reply = reply; walk = []; output = [] }
 abbrev pub gave : Result ℕ Refusal → Answer
 gave (Ok x) = replies (gives x)
 gave (Err e) = replies (refused (number e) (layer (number e)) 0)
+
+-- The building call of the specification that a value of the code is.
+abbrev pub meant : Build → Builds.Build
+meant (Constant word) = Builds.constant word
+meant (Mark index) = Builds.mark index

@@ -5,8 +5,9 @@ ghost use Rattle.histories.specs.Requests.{Call.build as Built, Call.release as
 ghost use Rattle.histories.specs.Histories.{Kept, Sameness};
 ghost use Rattle.layouts.specs.View.{view};
 ghost use Rattle.places.specs.Tables.{kept};
-ghost use Rattle.tables.specs.Models.{open-model, released-model, plain, replies, gave};
+ghost use Rattle.tables.specs.Models.{open-model, released-model, plain, replies, gave, meant};
 ghost use Rattle.tables.specs.Settling.{Settled};
+use crate::call::Build;
 use crate::released::Released;
 use building::simple;
 use kinds::Value;
@@ -47,6 +48,29 @@ impl<K: Value, S: Store> Open<K, S> {
     pub fn constant(&mut self, word: u32) -> Result<u32, Refusal>
         ensures { λ r. ⌜ Kept (K·Value .kind) (open-model (S·Store .entries) (now (self .entry))) (plain (Built (Constant word))) (gave r) (open-model (S·Store .entries) (now (self .exit))) ⌝ }
     {
+        self.build(Build::Constant(word))
+    }
+
+    /// The handle of a mark's node.
+    pub fn mark(&mut self, index: u32) -> Result<u32, Refusal>
+        ensures { λ r. ⌜ Kept (K·Value .kind) (open-model (S·Store .entries) (now (self .entry))) (plain (Built (Mark index))) (gave r) (open-model (S·Store .entries) (now (self .exit))) ⌝ }
+    {
+        self.build(Build::Mark(index))
+    }
+
+    // Carries out a building call.
+    fn build(&mut self, call: Build) -> Result<u32, Refusal>
+        ensures { λ r. ⌜ Kept (K·Value .kind) (open-model (S·Store .entries) (now (self .entry))) (plain (Built (meant call))) (gave r) (open-model (S·Store .entries) (now (self .exit))) ⌝ }
+    {
+        match call {
+            Build::Constant(word) => self.build_constant(word),
+            Build::Mark(index) => self.build_mark(index),
+        }
+    }
+
+    fn build_constant(&mut self, word: u32) -> Result<u32, Refusal>
+        ensures { λ r. ⌜ Kept (K·Value .kind) (open-model (S·Store .entries) (now (self .entry))) (plain (Built (Constant word))) (gave r) (open-model (S·Store .entries) (now (self .exit))) ⌝ }
+    {
         if !K::is_value(word) {
             return Err(Refusal::NotAValue);
         }
@@ -55,8 +79,7 @@ impl<K: Value, S: Store> Open<K, S> {
         self.settle(&saved, answer)
     }
 
-    /// The handle of a mark's node.
-    pub fn mark(&mut self, index: u32) -> Result<u32, Refusal>
+    fn build_mark(&mut self, index: u32) -> Result<u32, Refusal>
         ensures { λ r. ⌜ Kept (K·Value .kind) (open-model (S·Store .entries) (now (self .entry))) (plain (Built (Mark index))) (gave r) (open-model (S·Store .entries) (now (self .exit))) ⌝ }
     {
         if index >= u32::from(self.layout.size()) {

@@ -24,6 +24,13 @@ impl<K: Value, S: Store> Released<K, S> {
     pub fn grade(&self, handle: u32, fruit: u32) -> Result<u32, Refusal>
         ensures { λ r. ⌜ Kept (K·Value .kind) (released-model (S·Store .entries) (now (self .entry))) (plain (Look (Grade handle fruit))) (gave r) (released-model (S·Store .entries) (now (self .entry))) ⌝ }
     {
+        self.value_of(handle, fruit)
+    }
+
+    // The checks in their order, and then the walk.
+    fn value_of(&self, handle: u32, fruit: u32) -> Result<u32, Refusal>
+        ensures { λ r. ⌜ Kept (K·Value .kind) (released-model (S·Store .entries) (now (self .entry))) (plain (Look (Grade handle fruit))) (gave r) (released-model (S·Store .entries) (now (self .entry))) ⌝ }
+    {
         let Some(place) = self.places.live(handle) else {
             return Err(Refusal::NotLive);
         };

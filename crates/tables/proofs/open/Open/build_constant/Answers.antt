@@ -9,7 +9,7 @@ use Rattle.histories.proofs.Reachability.{keeps}
 use Rattle.layouts.specs.View.{view}
 use Rattle.layouts.proofs.Laying.{layout-valid}
 use Rattle.tables.proofs.Settling.{settled-build}
-use Rattle.tables.proofs.open.Open.constant.Needs as need
+use Rattle.tables.proofs.open.Open.build_constant.Needs as need
 
 pub returns : need.returns
 returns g c =

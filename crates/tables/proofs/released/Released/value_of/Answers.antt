@@ -11,7 +11,7 @@ use Rattle.places.specs.Tables.{holds}
 use Rattle.layouts.specs.View.{view}
 use Rattle.layouts.proofs.Laying.{layout-valid}
 use Rattle.tables.proofs.Grading.{grade-dead, grade-unfit, graded}
-use Rattle.tables.proofs.released.Released.grade.Needs as need
+use Rattle.tables.proofs.released.Released.value_of.Needs as need
 
 pub returns-in-rest : need.returns-in-rest
 returns-in-rest g c =

@@ -1,0 +1,5 @@
+// Trials: examples of what the engine answers, run against its public calls.
+#[cfg(test)]
+mod grading;
+#[cfg(test)]
+mod making;
