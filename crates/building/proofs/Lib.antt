@@ -1,3 +1,11 @@
 pub mod Seeing
 pub mod Toward
 pub mod Marking
+pub mod Working
+pub mod Shortening
+pub mod Keys
+pub mod Finishing
+pub mod Beginning
+pub mod Splitting
+pub mod Restricting
+pub mod Built

@@ -50,7 +50,7 @@ not-one (c ∷ d ∷ bs) b h = by (eqb c b)
     by false = refl
 
 -- a text of no bytes
-pub no-bytes : (bs : List ℕ) → length bs ≡ 0 → bs ≡ []
+no-bytes : (bs : List ℕ) → length bs ≡ 0 → bs ≡ []
 no-bytes [] h = refl
 no-bytes (b ∷ bs) h = absurd (omega arith)
 

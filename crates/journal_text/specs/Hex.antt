@@ -61,11 +61,11 @@ Begins ds (Ok None) = ds ≡ []
 Begins ds (Ok (Some (b, rest))) = (bytesOf ds ≡ before (Some b) (bytesOf (now rest))) × (length (now rest) < length ds)
 Begins ds (Err e) = bytesOf ds ≡ Err e
 
--- r is the bytes of the text w, or the mistake in it, or there was no memory for them
-abbrev pub Unhexed : {Z : Type 0} → List ℕ → Result (Vec ℕ Z) Unread → Type 0
-Unhexed w (Ok v) = hexOf w ≡ Ok (vec-items v)
-Unhexed w (Err (unread.Mistake e)) = hexOf w ≡ Err e
-Unhexed w (Err unread.NoMemory) = Unit {0}
+-- r is the bytes of the digits ds, or the mistake in them, or there was no memory for the bytes
+abbrev pub Decoded : {Z : Type 0} → List ℕ → Result (Vec ℕ Z) Unread → Type 0
+Decoded ds (Ok v) = bytesOf ds ≡ Ok (vec-items v)
+Decoded ds (Err (unread.Mistake e)) = bytesOf ds ≡ Err e
+Decoded ds (Err unread.NoMemory) = Unit {0}
 
 -- the digits of bytes, two for each
 abbrev pub digits : List ℕ → List ℕ

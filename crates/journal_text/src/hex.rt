@@ -7,7 +7,7 @@ ghost use Rattle.std.specs.Vec.{made};
 ghost use Rattle.std.specs.Of.Vec.{vec-items};
 ghost use Rattle.std.specs.declared.result.Result.the-variants.{Err};
 ghost use Rattle.journal_text.specs.declared.hex.Unread.the-variants as unread;
-ghost use Rattle.journal_text.specs.Hex.{hexDigit, hexValue, Begins, digitsOf, hexOf, Unhexed, hexText};
+ghost use Rattle.journal_text.specs.Hex.{hexDigit, hexValue, Begins, digitsOf, hexOf, Decoded, hexText};
 use crate::mistake::Mistake;
 use crate::scan::is_byte;
 use std::alloc::AllocError;
@@ -93,10 +93,17 @@ pub fn check_hex(text: &[u8]) -> Result<(), Mistake>
 
 // The bytes of a hex text.
 pub fn unhex(heap: Global, text: &[u8]) -> Result<Vec<u8>, Unread>
-    ensures { λ r. ⌜ Unhexed (now (text .entry)) r ⌝ }
+    ensures { λ r. ⌜ Decoded (digitsOf (now (text .entry))) r ⌝ }
+{
+    decode(heap, digits(text))
+}
+
+// The bytes that the digits write.
+fn decode(heap: Global, digits: &[u8]) -> Result<Vec<u8>, Unread>
+    ensures { λ r. ⌜ Decoded (now (digits .entry)) r ⌝ }
 {
     let mut bytes = Vec::new(heap);
-    let mut rest = digits(text);
+    let mut rest = digits;
     while let Some((byte, after)) = first_byte(rest)? {
         bytes.push(byte)?;
         rest = after;

@@ -1,6 +1,8 @@
 // Classes of bytes, and runs of them.
 ghost use mathlib.Core.Path.{_≡_};
 ghost use mathlib.Core.List.{[], _∷_};
+ghost use Prim.Native.Nat.{_<_};
+ghost use lib.ListN.{length};
 ghost use Rattle.std.specs.Options.{Cases};
 ghost use Rattle.std.specs.shelf.Lists.{leading};
 ghost use Rattle.std.specs.shelf.Lawful.{all-pass};
@@ -65,15 +67,24 @@ pub fn is_byte(text: &[u8], byte: u8) -> bool
 
 // The first line of a text without its newline, and the text after it; nothing where the text is empty.
 pub fn next_line(text: &[u8]) -> Option<(&[u8], &[u8])>
-    ensures { λ r. ⌜ Cases r (now (text .entry) ≡ []) (λ p. Lines (now (text .entry)) (now (p .0)) (now (p .1))) ⌝ }
+    ensures { λ r. ⌜ Cases r (length (now (text .entry)) ≡ 0) (λ p. Lines (now (text .entry)) (now (p .0)) (now (p .1))) ⌝ }
 {
     if text.is_empty() {
         return None;
     }
+    let (line, rest) = cut_line(text);
+    Some((line, rest))
+}
+
+// The first line of a text that is not empty, and the text after it.
+fn cut_line(text: &[u8]) -> (&[u8], &[u8])
+    requires { ⌜ 0 < length (now text) ⌝ }
+    ensures { λ r. ⌜ Lines (now (text .entry)) (now (r .0)) (now (r .1)) ⌝ }
+{
     let (line, newline) = text.split_at(run(text, Class::Not(b'\n')));
     if newline.is_empty() {
-        return Some((line, newline));
+        return (line, newline);
     }
     let (_, rest) = newline.split_at(1);
-    Some((line, rest))
+    (line, rest)
 }

@@ -1,13 +1,11 @@
--- Reading a journal comes to its end: what is left of it falls with each line. Assumes nothing.
+-- Reading a journal comes to its end: less is left of it after each command. Assumes nothing.
 use Prim.Native.Nat.{ℕ, _≤_, _<_}
-use denote.Ref.{now}
-use lib.ListN.{length}
 use Rattle.std.specs.declared.option.Option.{Option}
 use Rattle.std.specs.declared.option.Option.the-variants.{None, Some}
 use Rattle.std.specs.declared.result.Result.{Result}
 use Rattle.std.specs.declared.result.Result.the-variants.{Ok, Err}
 
--- A line was taken and less is left, or there was none.
+-- A command was taken and less is left, or there was none.
 abbrev pub Taken : {A : Type 0} → Option A → ℕ → ℕ → Type 0
 Taken None before after = after ≤ before
 Taken (Some line) before after = after < before

@@ -1,7 +1,6 @@
 // Why a journal cannot go on.
 use journal::Mistake;
 use std::alloc::AllocError;
-use std::alloc::Refused;
 use std::io;
 
 #[derive(Drop)]
@@ -53,12 +52,6 @@ pub impl From<io::Error> for Failure as FailureFromIo {
 
 pub impl From<AllocError> for Failure as FailureFromAlloc {
     fn from(_error: AllocError) -> Failure {
-        Failure::NoMemory
-    }
-}
-
-pub impl<T: Drop> From<Refused<T>> for Failure as FailureFromRefused {
-    fn from(_error: Refused<T>) -> Failure {
         Failure::NoMemory
     }
 }

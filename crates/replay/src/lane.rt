@@ -1,49 +1,49 @@
 // What a journal has said so far: its layout, and the names of handles.
 use crate::failure::Failure;
-use crate::failure::FailureFromRefused;
+use crate::failure::FailureFromAlloc;
+use journal::Names;
 use journal::Operand;
 use layouts::Layout;
 use std::alloc::Global;
-use std::collections::BTreeMap;
 
 #[derive(Drop)]
-pub struct Lane<'a> {
+pub struct Lane {
     pub layout: Option<Layout>,
-    names: BTreeMap<&'a str, u32>,
+    names: Names,
 }
 
-impl<'a> Lane<'a> {
-    pub fn new(heap: Global) -> Lane<'a> {
+impl Lane {
+    pub fn new(heap: Global) -> Lane {
         Lane {
             layout: None,
-            names: BTreeMap::new(heap),
+            names: Names::new(heap),
         }
     }
 
     // The handle that an operand names.
-    pub fn handle(&self, operand: Operand<'a>) -> Result<u32, Failure> {
-        match operand {
-            Operand::Number(handle) => Ok(handle),
-            Operand::Name(name) => match self.names.get(&name) {
-                Some(handle) => Ok(*handle),
-                None => Err(Failure::UnboundName),
-            },
+    pub fn handle(&self, operand: Operand<'_>) -> Result<u32, Failure> {
+        match self.names.handle(operand) {
+            Some(handle) => Ok(handle),
+            None => Err(Failure::UnboundName),
         }
     }
 
     // Binds a name to the handle that a call answered; a refused call leaves it unbound.
-    pub fn bind(&mut self, name: Option<&'a str>, handle: Option<u32>) -> Result<(), Failure> {
+    pub fn bind(
+        &mut self,
+        heap: Global,
+        name: Option<&str>,
+        handle: Option<u32>,
+    ) -> Result<(), Failure> {
         let Some(name) = name else {
             return Ok(());
         };
         match handle {
-            Some(handle) => {
-                self.names.insert(name, handle)?;
-            }
+            Some(handle) => Ok(self.names.bind(heap, name, handle)?),
             None => {
-                self.names.remove(&name);
+                self.names.unbind(name);
+                Ok(())
             }
         }
-        Ok(())
     }
 }

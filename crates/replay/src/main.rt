@@ -19,6 +19,8 @@ A journal has one command a line; # starts a comment.
   layout N, exchange A B, type M T        lay out the marks
   table KIND CAPACITY STORE               make a table: yesno or points; last, own or lent K
   NAME = constant W, NAME = mark M        build a rule, and name its handle
+  NAME = sum A B, difference A B, product A B, restrict A M C
+                                          build a rule from others
   release                                 release the table for grading
   grade A F                               the value that rule A gives fruit F
 Each command prints one line: ok, handle H, value V, or refused N and why.";

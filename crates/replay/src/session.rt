@@ -40,20 +40,20 @@ enum Table<K: Value, S: Store> {
 const LONGEST_LIST: u32 = 16777216;
 
 // Prints the handle that a call answered, or its refusal, and binds its name.
-fn print_handle<'a>(
+fn print_handle(
     rt: &LibcRuntime,
-    lane: &mut Lane<'a>,
-    name: Option<&'a str>,
+    lane: &mut Lane,
+    name: Option<&str>,
     answer: Result<u32, Refusal>,
 ) -> Result<(), Failure> {
     match answer {
         Ok(handle) => {
-            lane.bind(name, Some(handle))?;
+            lane.bind(rt.alloc(), name, Some(handle))?;
             println!(rt, "handle {handle}")?;
             Ok(())
         }
         Err(refusal) => {
-            lane.bind(name, None)?;
+            lane.bind(rt.alloc(), name, None)?;
             print_refusal(rt, refusal)
         }
     }
@@ -72,7 +72,7 @@ fn print_value(rt: &LibcRuntime, answer: Result<u32, Refusal>) -> Result<(), Fai
 // A call on an open table.
 fn on_open<'a, K: Value + Drop, S: Store + Drop>(
     rt: &LibcRuntime,
-    lane: &mut Lane<'a>,
+    lane: &mut Lane,
     mut open: Open<K, S>,
     line: Line<'a>,
 ) -> Result<Table<K, S>, Failure> {
@@ -84,6 +84,30 @@ fn on_open<'a, K: Value + Drop, S: Store + Drop>(
         }
         Command::Mark { mark } => {
             let answer = open.mark(mark);
+            print_handle(rt, lane, line.binds, answer)?;
+            Ok(Table::Open(open))
+        }
+        Command::Sum { a, b } => {
+            let answer = open.sum(lane.handle(a)?, lane.handle(b)?);
+            print_handle(rt, lane, line.binds, answer)?;
+            Ok(Table::Open(open))
+        }
+        Command::Difference { a, b } => {
+            let answer = open.difference(lane.handle(a)?, lane.handle(b)?);
+            print_handle(rt, lane, line.binds, answer)?;
+            Ok(Table::Open(open))
+        }
+        Command::Product { a, b } => {
+            let answer = open.product(lane.handle(a)?, lane.handle(b)?);
+            print_handle(rt, lane, line.binds, answer)?;
+            Ok(Table::Open(open))
+        }
+        Command::Restrict {
+            handle,
+            mark,
+            constant,
+        } => {
+            let answer = open.restrict(lane.handle(handle)?, mark, constant);
             print_handle(rt, lane, line.binds, answer)?;
             Ok(Table::Open(open))
         }
@@ -99,7 +123,7 @@ fn on_open<'a, K: Value + Drop, S: Store + Drop>(
 // A call on a released table.
 fn on_released<'a, K: Value + Drop, S: Store + Drop>(
     rt: &LibcRuntime,
-    lane: &mut Lane<'a>,
+    lane: &mut Lane,
     released: Released<K, S>,
     line: Line<'a>,
 ) -> Result<Table<K, S>, Failure> {
@@ -109,14 +133,20 @@ fn on_released<'a, K: Value + Drop, S: Store + Drop>(
             print_value(rt, released.grade(handle, fruit))?;
             Ok(Table::Released(released))
         }
-        Command::Constant { .. } | Command::Mark { .. } | Command::Release => Err(Failure::NotOpen),
+        Command::Constant { .. }
+        | Command::Mark { .. }
+        | Command::Sum { .. }
+        | Command::Difference { .. }
+        | Command::Product { .. }
+        | Command::Restrict { .. }
+        | Command::Release => Err(Failure::NotOpen),
         _ => Err(Failure::NotYet),
     }
 }
 
 fn on_table<'a, K: Value + Drop, S: Store + Drop>(
     rt: &LibcRuntime,
-    lane: &mut Lane<'a>,
+    lane: &mut Lane,
     table: Table<K, S>,
     line: Line<'a>,
 ) -> Result<Table<K, S>, Failure> {
@@ -130,7 +160,7 @@ fn on_table<'a, K: Value + Drop, S: Store + Drop>(
 fn serve<'a, K: Value + Drop, S: Store + Drop>(
     rt: &LibcRuntime,
     reader: &mut Reader<'a>,
-    lane: &mut Lane<'a>,
+    lane: &mut Lane,
     open: Open<K, S>,
 ) -> Result<Option<Next>, Failure> {
     println!(rt, "ok")?;
@@ -152,7 +182,7 @@ fn serve<'a, K: Value + Drop, S: Store + Drop>(
 fn prepare<'a>(
     rt: &LibcRuntime,
     reader: &mut Reader<'a>,
-    lane: &mut Lane<'a>,
+    lane: &mut Lane,
 ) -> Result<Option<Next>, Failure> {
     while let Some(line) = reader.next_command()? {
         match set_up(rt, lane, line.command)? {
@@ -171,7 +201,7 @@ fn prepare<'a>(
 fn with_kind<'a, K: Value + Drop>(
     rt: &LibcRuntime,
     reader: &mut Reader<'a>,
-    lane: &mut Lane<'a>,
+    lane: &mut Lane,
     order: Order,
 ) -> Result<Option<Next>, Failure> {
     match order.store {
@@ -206,7 +236,7 @@ fn with_kind<'a, K: Value + Drop>(
 fn with_table<'a>(
     rt: &LibcRuntime,
     reader: &mut Reader<'a>,
-    lane: &mut Lane<'a>,
+    lane: &mut Lane,
     order: Order,
 ) -> Result<Option<Next>, Failure> {
     match order.kind {
@@ -219,7 +249,7 @@ fn with_table<'a>(
 fn sessions<'a>(
     rt: &LibcRuntime,
     reader: &mut Reader<'a>,
-    lane: &mut Lane<'a>,
+    lane: &mut Lane,
     bytes: usize,
 ) -> Result<(), Failure> {
     let mut next = Next::Bare;

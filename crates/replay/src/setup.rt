@@ -56,7 +56,7 @@ fn print_ok(rt: &LibcRuntime, answer: Result<(), Refusal>) -> Result<(), Failure
     }
 }
 
-fn begin(rt: &LibcRuntime, lane: &mut Lane<'_>, marks: u32) -> Result<Next, Failure> {
+fn begin(rt: &LibcRuntime, lane: &mut Lane, marks: u32) -> Result<Next, Failure> {
     match Layout::begin(marks) {
         Ok(layout) => {
             lane.layout = Some(layout);
@@ -70,14 +70,14 @@ fn begin(rt: &LibcRuntime, lane: &mut Lane<'_>, marks: u32) -> Result<Next, Fail
     }
 }
 
-fn layout_of(lane: &Lane<'_>) -> Result<Layout, Failure> {
+fn layout_of(lane: &Lane) -> Result<Layout, Failure> {
     match lane.layout {
         Some(layout) => Ok(layout),
         None => Err(Failure::NoLayout),
     }
 }
 
-fn exchange(rt: &LibcRuntime, lane: &mut Lane<'_>, a: u32, b: u32) -> Result<Next, Failure> {
+fn exchange(rt: &LibcRuntime, lane: &mut Lane, a: u32, b: u32) -> Result<Next, Failure> {
     let mut layout = layout_of(lane)?;
     let answer = layout.exchange(a, b);
     lane.layout = Some(layout);
@@ -85,7 +85,7 @@ fn exchange(rt: &LibcRuntime, lane: &mut Lane<'_>, a: u32, b: u32) -> Result<Nex
     Ok(Next::Same)
 }
 
-fn set_type(rt: &LibcRuntime, lane: &mut Lane<'_>, mark: u32, to: u32) -> Result<Next, Failure> {
+fn set_type(rt: &LibcRuntime, lane: &mut Lane, mark: u32, to: u32) -> Result<Next, Failure> {
     let mut layout = layout_of(lane)?;
     let answer = layout.set_type(mark, to);
     lane.layout = Some(layout);
@@ -95,7 +95,7 @@ fn set_type(rt: &LibcRuntime, lane: &mut Lane<'_>, mark: u32, to: u32) -> Result
 
 fn table(
     rt: &LibcRuntime,
-    lane: &Lane<'_>,
+    lane: &Lane,
     kind: KindName,
     capacity: u32,
     store: StoreName,
@@ -118,7 +118,7 @@ fn table(
 // Carries out a command that needs no table; nothing where the command needs one.
 pub fn set_up(
     rt: &LibcRuntime,
-    lane: &mut Lane<'_>,
+    lane: &mut Lane,
     command: Command<'_>,
 ) -> Result<Option<Next>, Failure> {
     match command {

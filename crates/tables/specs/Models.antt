@@ -12,8 +12,9 @@ use Rattle.refusals.specs.Refusals.{number}
 use Rattle.refusals.specs.declared.refusal.Refusal.{Refusal}
 use Rattle.layouts.specs.View.{view}
 use Rattle.building.specs.Work.{model}
+use Rattle.building.specs.Operations
 use Rattle.tables.specs.declared.call.Build.{Build}
-use Rattle.tables.specs.declared.call.Build.the-variants.{Constant, Mark}
+use Rattle.tables.specs.declared.call.Build.the-variants.{Constant, Mark, Combine, Restrict}
 use Rattle.tables.specs.declared.open.Open.{Open}
 use Rattle.tables.specs.declared.released.Released.{Released}
 
@@ -43,3 +44,5 @@ gave (Err e) = replies (refused (number e) (layer (number e)) 0)
 abbrev pub meant : Build → Builds.Build
 meant (Constant word) = Builds.constant word
 meant (Mark index) = Builds.mark index
+meant (Combine operation a b) = Builds.combine (Operations.meant operation) a b
+meant (Restrict handle mark constant) = Builds.restrict handle mark constant

@@ -1,14 +1,19 @@
 ghost use mathlib.Core.Path.{_≡_};
+ghost use Rattle.diagrams.specs.Tasks.{Operation.sum as Sum, Operation.difference as Difference, Operation.product as Product};
 ghost use Rattle.histories.specs.Tables.{Made};
-ghost use Rattle.histories.specs.Builds.{Build.constant as Constant, Build.mark as Mark};
+ghost use Rattle.histories.specs.Builds.{Build.constant as Constant, Build.mark as Mark, Build.combine as Combine, Build.restrict as Restrict};
 ghost use Rattle.histories.specs.Requests.{Call.build as Built, Call.release as Release, Reply.done as Done};
 ghost use Rattle.histories.specs.Histories.{Kept, Sameness};
 ghost use Rattle.layouts.specs.View.{view};
+ghost use Rattle.building.specs.Operations.{meant as operated};
 ghost use Rattle.places.specs.Tables.{kept};
 ghost use Rattle.tables.specs.Models.{open-model, released-model, plain, replies, gave, meant};
 ghost use Rattle.tables.specs.Settling.{Settled};
 use crate::call::Build;
 use crate::released::Released;
+use building::combine::combine;
+use building::operation::Operation;
+use building::restrict::restrict;
 use building::simple;
 use kinds::Value;
 use layouts::Capacity;
@@ -30,7 +35,14 @@ pub struct Open<K: Value, S: Store> {
 
 impl<K: Value, S: Store> Open<K, S> {
     /// Makes a table that holds zero and one, over a store that has forgotten. What is promised of every history of calls since a making is stated here.
-    pub fn make(layout: Layout, capacity: Capacity, mut store: S) -> Open<K, S>
+    pub fn make(layout: Layout, capacity: Capacity, store: S) -> Open<K, S>
+        ensures made { λ r. ⌜ Made (K·Value .kind) (view layout) (capacity .places) (open-model (S·Store .entries) r) ⌝ }
+        ensures sameness { λ _. ⌜ Sameness ⌝ }
+    {
+        Self::start(layout, capacity, store)
+    }
+
+    fn start(layout: Layout, capacity: Capacity, mut store: S) -> Open<K, S>
         ensures made { λ r. ⌜ Made (K·Value .kind) (view layout) (capacity .places) (open-model (S·Store .entries) r) ⌝ }
         ensures sameness { λ _. ⌜ Sameness ⌝ }
     {
@@ -58,6 +70,34 @@ impl<K: Value, S: Store> Open<K, S> {
         self.build(Build::Mark(index))
     }
 
+    /// The handle of the sum of two rules.
+    pub fn sum(&mut self, a: u32, b: u32) -> Result<u32, Refusal>
+        ensures { λ r. ⌜ Kept (K·Value .kind) (open-model (S·Store .entries) (now (self .entry))) (plain (Built (Combine Sum a b))) (gave r) (open-model (S·Store .entries) (now (self .exit))) ⌝ }
+    {
+        self.build(Build::Combine(Operation::Sum, a, b))
+    }
+
+    /// The handle of the first rule less the second.
+    pub fn difference(&mut self, a: u32, b: u32) -> Result<u32, Refusal>
+        ensures { λ r. ⌜ Kept (K·Value .kind) (open-model (S·Store .entries) (now (self .entry))) (plain (Built (Combine Difference a b))) (gave r) (open-model (S·Store .entries) (now (self .exit))) ⌝ }
+    {
+        self.build(Build::Combine(Operation::Difference, a, b))
+    }
+
+    /// The handle of the product of two rules.
+    pub fn product(&mut self, a: u32, b: u32) -> Result<u32, Refusal>
+        ensures { λ r. ⌜ Kept (K·Value .kind) (open-model (S·Store .entries) (now (self .entry))) (plain (Built (Combine Product a b))) (gave r) (open-model (S·Store .entries) (now (self .exit))) ⌝ }
+    {
+        self.build(Build::Combine(Operation::Product, a, b))
+    }
+
+    /// The handle of a rule with a mark put to a constant, 0 or 1.
+    pub fn restrict(&mut self, handle: u32, mark: u32, constant: u32) -> Result<u32, Refusal>
+        ensures { λ r. ⌜ Kept (K·Value .kind) (open-model (S·Store .entries) (now (self .entry))) (plain (Built (Restrict handle mark constant))) (gave r) (open-model (S·Store .entries) (now (self .exit))) ⌝ }
+    {
+        self.build(Build::Restrict(handle, mark, constant))
+    }
+
     // Carries out a building call.
     fn build(&mut self, call: Build) -> Result<u32, Refusal>
         ensures { λ r. ⌜ Kept (K·Value .kind) (open-model (S·Store .entries) (now (self .entry))) (plain (Built (meant call))) (gave r) (open-model (S·Store .entries) (now (self .exit))) ⌝ }
@@ -65,6 +105,12 @@ impl<K: Value, S: Store> Open<K, S> {
         match call {
             Build::Constant(word) => self.build_constant(word),
             Build::Mark(index) => self.build_mark(index),
+            Build::Combine(operation, a, b) => self.build_combined(operation, a, b),
+            Build::Restrict(handle, mark, constant) => self.build_restricted(
+                handle,
+                mark,
+                constant,
+            ),
         }
     }
 
@@ -87,6 +133,51 @@ impl<K: Value, S: Store> Open<K, S> {
         }
         let saved = self.places.save();
         let answer = simple::mark::<K>(&mut self.places, &self.layout, index as u8);
+        self.settle(&saved, answer)
+    }
+
+    fn build_combined(&mut self, operation: Operation, a: u32, b: u32) -> Result<u32, Refusal>
+        ensures { λ r. ⌜ Kept (K·Value .kind) (open-model (S·Store .entries) (now (self .entry))) (plain (Built (Combine (operated operation) a b))) (gave r) (open-model (S·Store .entries) (now (self .exit))) ⌝ }
+    {
+        let Some(left) = self.places.live(a) else {
+            return Err(Refusal::NotLive);
+        };
+        let Some(right) = self.places.live(b) else {
+            return Err(Refusal::NotLive);
+        };
+        let saved = self.places.save();
+        let answer = combine::<K, S>(
+            &mut self.places,
+            &mut self.store,
+            &self.layout,
+            operation,
+            left,
+            right,
+        );
+        self.settle(&saved, answer)
+    }
+
+    fn build_restricted(&mut self, handle: u32, mark: u32, constant: u32) -> Result<u32, Refusal>
+        ensures { λ r. ⌜ Kept (K·Value .kind) (open-model (S·Store .entries) (now (self .entry))) (plain (Built (Restrict handle mark constant))) (gave r) (open-model (S·Store .entries) (now (self .exit))) ⌝ }
+    {
+        if mark >= u32::from(self.layout.size()) {
+            return Err(Refusal::NoSuchMark);
+        }
+        let Some(place) = self.places.live(handle) else {
+            return Err(Refusal::NotLive);
+        };
+        if constant > 1 {
+            return Err(Refusal::NotAConstant);
+        }
+        let saved = self.places.save();
+        let answer = restrict::<K, S>(
+            &mut self.places,
+            &mut self.store,
+            &self.layout,
+            place,
+            mark as u8,
+            constant as u8,
+        );
         self.settle(&saved, answer)
     }
 

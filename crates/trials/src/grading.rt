@@ -1,11 +1,12 @@
 // What released tables grade.
+use crate::making::given;
+use crate::making::laid_out;
+use crate::making::places;
 use crate::making::refused;
 use kinds::Points;
 use kinds::PointsValue;
 use kinds::YesNo;
 use kinds::YesNoValue;
-use layouts::Capacity;
-use layouts::Layout;
 use std::test::*;
 use stores::Entry;
 use stores::last::Last;
@@ -16,13 +17,8 @@ use tables::Open;
 
 #[test]
 fn fruit_has_no_mark_past_the_layout() -> Result<(), Fail> {
-    let (Ok(layout), Ok(capacity)) = (Layout::begin(2), Capacity::new(8)) else {
-        return Err(Fail::new("the layout and the capacity are in range"));
-    };
-    let mut table = Open::<YesNo, Last>::make(layout, capacity, Last::new());
-    let Ok(mark) = table.mark(1) else {
-        return Err(Fail::new("the table has room"));
-    };
+    let mut table = Open::<YesNo, Last>::make(laid_out(2)?, places(8)?, Last::new());
+    let mark = given(table.mark(1))?;
     let table = table.release();
     check_eq(refused(table.grade(mark, 3)), 0)?;
     check_eq(refused(table.grade(mark, 4)), 8)?;
@@ -34,16 +30,12 @@ fn fruit_has_no_mark_past_the_layout() -> Result<(), Fail> {
 
 #[test]
 fn a_negative_davio_mark_of_points_adds_where_it_is_0() -> Result<(), Fail> {
-    let (Ok(mut layout), Ok(capacity)) = (Layout::begin(1), Capacity::new(4)) else {
-        return Err(Fail::new("the layout and the capacity are in range"));
-    };
+    let mut layout = laid_out(1)?;
     check_eq(refused(layout.set_type(0, 2)), 0)?;
     let mut entries: [Option<Entry>; 4] = [None; 4];
-    let mut table = Open::<Points, Lent<'_>>::make(layout, capacity, Lent::over(&mut entries));
+    let mut table = Open::<Points, Lent<'_>>::make(layout, places(4)?, Lent::over(&mut entries));
     // Its leaves are 1 and 4,294,967,295: both are in use with it.
-    let Ok(mark) = table.mark(0) else {
-        return Err(Fail::new("four places are enough"));
-    };
+    let mark = given(table.mark(0))?;
     check_eq(refused(table.constant(4294967295)), 0)?;
     check_eq(refused(table.constant(2)), 25)?;
     let table = table.release();

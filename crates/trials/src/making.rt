@@ -21,6 +21,30 @@ pub fn refused<T: Drop>(answer: Result<T, Refusal>) -> u8 {
     }
 }
 
+// A layout of so many marks.
+pub fn laid_out(marks: u32) -> Result<Layout, Fail> {
+    match Layout::begin(marks) {
+        Ok(layout) => Ok(layout),
+        Err(_) => Err(Fail::new("a layout has 1 to 32 marks")),
+    }
+}
+
+// A capacity of so many places.
+pub fn places(number: u32) -> Result<Capacity, Fail> {
+    match Capacity::new(number) {
+        Ok(capacity) => Ok(capacity),
+        Err(_) => Err(Fail::new("a capacity is 2 to 4096")),
+    }
+}
+
+// The handle that a call answers.
+pub fn given(answer: Result<u32, Refusal>) -> Result<u32, Fail> {
+    match answer {
+        Ok(handle) => Ok(handle),
+        Err(_) => Err(Fail::new("the call should be accepted")),
+    }
+}
+
 #[test]
 fn layouts_have_one_to_thirty_two_marks() -> Result<(), Fail> {
     check_eq(refused(Layout::begin(0)), 1)?;
@@ -31,9 +55,7 @@ fn layouts_have_one_to_thirty_two_marks() -> Result<(), Fail> {
 
 #[test]
 fn levels_and_types_are_checked_in_order() -> Result<(), Fail> {
-    let Ok(mut layout) = Layout::begin(2) else {
-        return Err(Fail::new("two marks make a layout"));
-    };
+    let mut layout = laid_out(2)?;
     check_eq(refused(layout.exchange(0, 1)), 0)?;
     check_eq(layout.mark(0), 1)?;
     check_eq(layout.level(0), 1)?;
@@ -55,13 +77,11 @@ fn capacities_go_from_two_to_4096() -> Result<(), Fail> {
 
 #[test]
 fn a_yes_no_mark_needs_three_places() -> Result<(), Fail> {
-    let (Ok(layout), Ok(two), Ok(three)) = (Layout::begin(1), Capacity::new(2), Capacity::new(3)) else {
-        return Err(Fail::new("the layout and the capacities are in range"));
-    };
-    let mut small = Open::<YesNo, Last>::make(layout, two, Last::new());
+    let layout = laid_out(1)?;
+    let mut small = Open::<YesNo, Last>::make(layout, places(2)?, Last::new());
     check_eq(refused(small.mark(0)), 25)?;
     check_eq(refused(small.constant(1)), 0)?;
-    let mut large = Open::<YesNo, Last>::make(layout, three, Last::new());
+    let mut large = Open::<YesNo, Last>::make(layout, places(3)?, Last::new());
     check_eq(refused(large.mark(0)), 0)?;
     check_eq(refused(large.mark(1)), 2)?;
     check_eq(refused(large.constant(2)), 5)
@@ -69,17 +89,10 @@ fn a_yes_no_mark_needs_three_places() -> Result<(), Fail> {
 
 #[test]
 fn equal_rules_have_equal_handles() -> Result<(), Fail> {
-    let (Ok(layout), Ok(capacity)) = (Layout::begin(3), Capacity::new(64)) else {
-        return Err(Fail::new("the layout and the capacity are in range"));
-    };
-    let mut table = Open::<Points, Own>::make(layout, capacity, Own::new());
-    let (Ok(first), Ok(seven)) = (table.mark(2), table.constant(7)) else {
-        return Err(Fail::new("the table has room"));
-    };
-    let (Ok(second), Ok(again)) = (table.mark(2), table.constant(7)) else {
-        return Err(Fail::new("the table has room"));
-    };
-    check_eq(first, second)?;
-    check_eq(seven, again)?;
-    check_ne(first, seven)
+    let mut table = Open::<Points, Own>::make(laid_out(3)?, places(64)?, Own::new());
+    let mark = given(table.mark(2))?;
+    let seven = given(table.constant(7))?;
+    check_eq(given(table.mark(2))?, mark)?;
+    check_eq(given(table.constant(7))?, seven)?;
+    check_ne(mark, seven)
 }

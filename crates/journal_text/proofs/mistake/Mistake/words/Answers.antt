@@ -23,14 +23,8 @@ returns-in-OutOfRange c = ap wording (sym (c .in-OutOfRange .is))
 pub returns-in-BadName : need.returns-in-BadName
 returns-in-BadName c = ap wording (sym (c .in-BadName .is))
 
-pub returns-in-UnknownKind : need.returns-in-UnknownKind
-returns-in-UnknownKind c = ap wording (sym (c .in-UnknownKind .is))
-
 pub returns-in-UnknownStore : need.returns-in-UnknownStore
 returns-in-UnknownStore c = ap wording (sym (c .in-UnknownStore .is))
-
-pub returns-in-UnknownList : need.returns-in-UnknownList
-returns-in-UnknownList c = ap wording (sym (c .in-UnknownList .is))
 
 pub returns-in-OddHex : need.returns-in-OddHex
 returns-in-OddHex c = ap wording (sym (c .in-OddHex .is))

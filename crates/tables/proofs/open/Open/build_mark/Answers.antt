@@ -9,7 +9,7 @@ use Rattle.histories.proofs.Faults.{passes}
 use Rattle.histories.proofs.Reachability.{keeps}
 use Rattle.layouts.specs.View.{view}
 use Rattle.layouts.proofs.Laying.{layout-valid}
-use Rattle.tables.proofs.Settling.{settled-build}
+use Rattle.tables.proofs.Settling.{short-came, settled-build}
 use Rattle.tables.proofs.open.Open.build_mark.Needs as need
 
 pub returns : need.returns
@@ -20,7 +20,8 @@ returns g c =
     let ok : Lawful K (view (start .layout)) = record { laws = g .K·Value .laws; valid = layout-valid (start .layout) } in
     let inside : i < start .layout .size = omega arith in
     keeps ok (λ sound.
-    settled-build K (g .S·Store .entries) start (mark i) (Tasks.mark i) ok sound refl (omega arith, inside) refl (λ k none. none)
+    settled-build K (g .S·Store .entries) start (mark i) (Tasks.mark i) ok sound refl (omega arith, inside)
     (λ room. (passes (λ far. omega arith), (room, tt))) (λ full. inr (passes (λ far. omega arith), inl full))
-    (c .mark-answer .last .places) _ (c .settle .last .self) (c .mark-answer .result) (c .settle .result) (c .save-saved .ensures)
-    (c .mark-answer .ensures) (c .settle .ensures))
+    (c .mark-answer .last .places) _ (start .store) (c .settle .last .self) (c .mark-answer .result) (c .settle .result) (c .save-saved .ensures)
+    (short-came K (g .S·Store .entries) start (mark i) (Tasks.mark i) ok sound refl (omega arith, inside) refl (λ k none. none) (c .mark-answer .last .places) (c .mark-answer .result) (c .mark-answer .ensures))
+    (c .settle .ensures))
