@@ -1,16 +1,16 @@
 -- A combination that is answered at once: by a shortcut, or by the store. Assumes nothing.
-use mathlib.Core.Path.{_≡_, refl, sym, ap, _∙_, subst}
-use mathlib.Core.Bool.{true, false}
+use mathlib.Core.Path.{_≡_, refl, sym, ap, subst}
+use mathlib.Core.Bool.{true}
 use mathlib.Core.List.{[]}
-use mathlib.Core.Option.{none, some}
-use Prim.Native.Nat.{ℕ, _≤_, _<_}
+use mathlib.Core.Option.{some}
+use Prim.Native.Nat.{ℕ}
 use native.Mathlib.Omega.{arith}
 use Rattle.std.specs.declared.option.Option.{Option}
-use Rattle.std.specs.declared.option.Option.the-variants.{None, Some}
+use Rattle.std.specs.declared.option.Option.the-variants.{Some}
 use Rattle.diagrams.specs.Kinds.{Kind}
 use Rattle.diagrams.specs.Layouts.{Layout}
 use Rattle.diagrams.specs.Diagrams.{Lawful, Diagram, leaf, Good}
-use Rattle.diagrams.specs.Tasks.{Operation, Task, combine, result}
+use Rattle.diagrams.specs.Tasks.{Operation, combine, result}
 use Rattle.diagrams.specs.Building.{quick, smaller-of, is-short, smaller, shortcut}
 use Rattle.diagrams.specs.Places.{leaf-word, Stands}
 use Rattle.diagrams.proofs.Composing.{way-to-combine, Right, right}
@@ -23,7 +23,7 @@ use Rattle.histories.proofs.Standing.{stands-good}
 use Rattle.places.specs.declared.places.Places.{Places}
 use Rattle.places.specs.Tables.{holds, Under, Filling}
 use Rattle.places.proofs.Extending.{stays, filling-extends}
-use Rattle.building.specs.declared.quick.Quick.the-variants.{Handle, Value, Split}
+use Rattle.building.specs.declared.quick.Quick.the-variants.{Handle, Value}
 use Rattle.building.specs.Work.{model}
 use Rattle.building.specs.Operations.{combine-key}
 use Rattle.building.specs.Shortcuts.{floor, Rooted, Quickly}

@@ -6,7 +6,7 @@ use native.Mathlib.Omega.{arith}
 use Rattle.std.specs.declared.option.Option.the-variants.{Some}
 use Rattle.diagrams.specs.Kinds.{Kind}
 use Rattle.diagrams.specs.Layouts.{Layout}
-use Rattle.diagrams.specs.Diagrams.{Lawful, Diagram}
+use Rattle.diagrams.specs.Diagrams.{Lawful}
 use Rattle.diagrams.specs.Tasks.{Task, constant, mark, combine, restrict, Fit, result}
 use Rattle.diagrams.specs.Building.{shortcut}
 use Rattle.diagrams.specs.Places.{Unshared}

@@ -2,8 +2,8 @@
 use mathlib.Core.Path.{_≡_, refl, sym, ap, ap₂, _∙_, subst}
 use mathlib.Core.Bool.{true, false}
 use mathlib.Core.List.{List, [], _∷_, List·Memᴰ, List·Memᴰ·head, List·Memᴰ·tail, List·Memᴰ·not-nil, List·Memᴰ·eq-of-singleton}
-use mathlib.Core.Logic.{_⊎_, inl, inr}
-use Prim.Native.Nat.{ℕ, _+_, _≤_, _<_}
+use mathlib.Core.Logic.{inl, inr}
+use Prim.Native.Nat.{ℕ, _≤_}
 use native.Mathlib.Omega.{arith}
 use Rattle.std.proofs.shelf.Tests.{false≢true}
 use Rattle.std.specs.declared.option.Option.{Option}
@@ -16,7 +16,7 @@ use Rattle.diagrams.specs.Building.{smaller, shortcut, Inside, itself, deeper, 
 use Rattle.diagrams.specs.Places.{Content, leaf-word, node-at, Stands}
 use Rattle.diagrams.proofs.Places.{stands-for-one, one-handle}
 use Rattle.histories.specs.Stores.{Key, Entries, Offered}
-use Rattle.histories.specs.Tables.{Phase, Model, Stands-for, InUse, Outnumber}
+use Rattle.histories.specs.Tables.{Phase, Model, Stands-for, Outnumber}
 use Rattle.histories.specs.Steps.{Keyed, Gains, Needed, Offering, Worked}
 use Rattle.histories.proofs.Sound.{Sound}
 use Rattle.histories.proofs.StepSound.{one-worked-sound}
@@ -25,7 +25,7 @@ use Rattle.histories.proofs.Keeping.{gains-moves}
 use Rattle.histories.proofs.Rightness.{keyed-moves}
 use Rattle.places.specs.declared.places.Places.{Places}
 use Rattle.places.specs.Contents.{in-use, depth}
-use Rattle.places.specs.Tables.{holds, Held, Extends, Given, Refused, Filling}
+use Rattle.places.specs.Tables.{holds, Held, Extends, Filling}
 use Rattle.places.proofs.Extending.{unshared, stands-still, held-still, filling-extends}
 use Rattle.building.specs.Work.{model}
 use Rattle.building.specs.Parts.{spared, No-higher, Joined}
@@ -33,7 +33,7 @@ use Rattle.building.specs.Calls.{Answered, Finished, Closed}
 use Rattle.building.proofs.Seeing.{seen-stands, stands-seen, seen-content}
 use Rattle.building.proofs.Toward.{Toward, toward-start, toward-given, toward-gains, toward-full}
 use Rattle.building.proofs.Keys.{keyed-one}
-use Rattle.building.proofs.Working.{Under-task, worked-idle, worked-none, worked-then, worked-within, outnumber-within}
+use Rattle.building.proofs.Working.{own-needed, Under-task, worked-idle, worked-none, worked-then, worked-within, outnumber-within}
 
 make-dropped : (K : Kind) (L : Layout) (l : ℕ) (a b : Diagram) → b ≡ spare K (L .type l) a → make K L l a b ≡ a
 make-dropped K L l a b e =
@@ -73,9 +73,6 @@ module _ (K : Kind) (L : Layout) (task : Task) where
   abbrev P : Diagram → Type 0
   P = Needed K L (task ∷ [])
 
-  own-needed : P (result K L task)
-  own-needed = (task, List·Memᴰ·head refl, record { part = task; inside = itself refl; is = refl })
-
   -- All that the smaller calls need is in use.
   abbrev pub Parts-held : Places → Type 0
   Parts-held t = (part : Task) → List·Memᴰ part (smaller K L task) → (d : Diagram) → Needs K L part d → Held t d
@@ -108,10 +105,10 @@ module _ (K : Kind) (L : Layout) (task : Task) where
     put-content : (u : Places) (d : Diagram) (c : Content) → d ≡ result K L task → Good K L 0 d
         → ((v : Places) → Extends t v → (h : ℕ) → holds v h ≡ c → Stands (holds v) d h) → ((h : ℕ) → Stands (holds t) d h → holds t h ≡ c)
         → (r : Option ℕ) → Filling t u c r → Put f p t u r
-    put-content u d c e good to from None n = toward-full K L P f p (toward-start K L P f p t sound) n d from (subst P (sym e) own-needed)
+    put-content u d c e good to from None n = toward-full K L P f p (toward-start K L P f p t sound) n d from (subst P (sym e) (own-needed K L task))
     put-content u d c e good to from (Some h) n =
         let here : Stands (holds u) d h = to u (n .extends) h (n .here) in
-        (toward-given K L P (toward-start K L P f p t sound) n d here good (subst P (sym e) own-needed), subst (λ x. Stands (holds u) x h) e here)
+        (toward-given K L P (toward-start K L P f p t sound) n d here good (subst P (sym e) (own-needed K L task)), subst (λ x. Stands (holds u) x h) e here)
 
     -- A leaf answers.
     pub put-leaf : (u : Places) (v : ℕ) → leaf v ≡ result K L task → Good K L 0 (leaf v) → (r : Option ℕ) → Filling t u (leaf-word v) r → Put f p t u r

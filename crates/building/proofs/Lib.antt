@@ -1,7 +1,7 @@
 pub mod Seeing
 pub mod Toward
-pub mod Marking
 pub mod Working
+pub mod Marking
 pub mod Shortening
 pub mod Keys
 pub mod Finishing

@@ -1,6 +1,6 @@
 -- Building a constant and a mark: each place that is given stands for a diagram that the call needs. Assumes nothing.
 use mathlib.Core.Path.{_≡_, refl, sym, ap, ap₂, _∙_, subst}
-use mathlib.Core.List.{List, [], _∷_, List·Memᴰ, List·Memᴰ·head, List·Memᴰ·tail, List·Memᴰ·not-nil}
+use mathlib.Core.List.{List, [], _∷_, List·Memᴰ, List·Memᴰ·head, List·Memᴰ·tail, List·Memᴰ·not-nil, List·Memᴰ·eq-of-singleton}
 use mathlib.Core.Logic.{_⊎_, inl, inr}
 use Prim.Native.Nat.{ℕ, _<_}
 use native.Mathlib.Omega.{arith}
@@ -26,13 +26,11 @@ use Rattle.places.specs.Tables.{holds, Held, Given, Refused, Filling}
 use Rattle.places.proofs.Extending.{unshared, stands-still, held-still}
 use Rattle.building.specs.Work.{model, Works, Went, Brought}
 use Rattle.building.proofs.Seeing.{seen-stands}
+use Rattle.building.proofs.Working.{own-needed}
 use Rattle.building.proofs.Toward.{Toward, toward-start, toward-given, toward-gains, toward-full}
 
 module _ (K : Kind) (L : Layout) (ok : Lawful K L) where
-  -- What a call and its smaller calls answer is needed.
-  own-needed : (task : Task) → Needed K L (task ∷ []) (result K L task)
-  own-needed task = (task, List·Memᴰ·head refl, record { part = task; inside = itself refl; is = refl })
-
+  -- What a smaller call answers is needed.
   part-needed : (task part : Task) → List·Memᴰ part (smaller K L task) → Needed K L (task ∷ []) (result K L part)
   part-needed task part m = (task, List·Memᴰ·head refl, record { part = part; inside = deeper m (itself refl); is = refl })
 
@@ -47,21 +45,17 @@ module _ (K : Kind) (L : Layout) (ok : Lawful K L) where
   leaf-result : (v : ℕ) → T (K .value v) → leaf v ≡ result K L (constant v)
   leaf-result v fit = builds K L ok (constant v) fit
 
-  only-task : {task t : Task} → List·Memᴰ t (task ∷ []) → t ≡ task
-  only-task (List·Memᴰ·head e) = e
-  only-task (List·Memᴰ·tail m) = absurd (List·Memᴰ·not-nil m)
-
   constant-all : (v : ℕ) → T (K .value v) → (u : Places) → Held u (leaf v) → (d : Diagram) → Needed K L (constant v ∷ []) d → Held u d
   constant-all v fit u held d n =
-      let is : d ≡ result K L (constant v) = constant-needs v d (subst (λ t. Needs K L t d) (only-task (n .1)) (n .2)) in
+      let is : d ≡ result K L (constant v) = constant-needs v d (subst (λ t. Needs K L t d) (List·Memᴰ·eq-of-singleton (n .1)) (n .2)) in
       subst (Held u) (leaf-result v fit ∙ sym is) held
 
   pub constant-works : (v : ℕ) (t u : Places) (r : Option ℕ) → Filling t u (leaf-word v) r → Works K L (constant v) t u r
   constant-works v t u None n lawful fit f p sound =
       toward-full K L (Needed K L (constant v ∷ [])) f p (toward-start K L _ f p t sound) n (leaf v) (λ h s. s)
-      (subst (Needed K L (constant v ∷ [])) (sym (leaf-result v fit)) (own-needed (constant v)))
+      (subst (Needed K L (constant v ∷ [])) (sym (leaf-result v fit)) (own-needed K L (constant v)))
   constant-works v t u (Some h) n lawful fit f p sound =
-      let has = subst (Needed K L (constant v ∷ [])) (sym (leaf-result v fit)) (own-needed (constant v)) in
+      let has = subst (Needed K L (constant v ∷ [])) (sym (leaf-result v fit)) (own-needed K L (constant v)) in
       let way = toward-given K L (Needed K L (constant v ∷ [])) (toward-start K L _ f p t sound) n (leaf v) (n .here) fit has in
       record {
         stands = subst (λ d. Stands-for (model L f p u) d h) (leaf-result v fit) (seen-stands L f p u (leaf v) h (n .here));
@@ -101,7 +95,7 @@ module _ (K : Kind) (L : Layout) (ok : Lawful K L) where
     whole-result = builds K L ok (mark i) (omega arith, fit)
 
     whole-needed : P whole
-    whole-needed = subst P (sym whole-result) (own-needed (mark i))
+    whole-needed = subst P (sym whole-result) (own-needed K L (mark i))
 
     whole-good : Good K L 0 whole
     whole-good = subst (Good K L 0) (sym whole-result) (answer-good ok 0 (mark i) (omega arith, fit) (omega arith))
@@ -110,7 +104,7 @@ module _ (K : Kind) (L : Layout) (ok : Lawful K L) where
     mark-needs u low high all d n = go (needs .inside) (needs .is)
       where
         needs : Needs K L (mark i) d
-        needs = subst (λ t. Needs K L t d) (only-task (n .1)) (n .2)
+        needs = subst (λ t. Needs K L t d) (List·Memᴰ·eq-of-singleton (n .1)) (n .2)
 
         leaf-held : (v : ℕ) → T (K .value v) → Held u (leaf v) → {part : Task} → Inside K L (constant v) part → d ≡ result K L part → Held u d
         leaf-held v value held {part} j is =

@@ -1,8 +1,8 @@
 -- Restrictions: answered at once, by a sum, or from the children. Assumes nothing.
 use mathlib.Core.Path.{_≡_, refl, sym, ap, _∙_, subst}
 use mathlib.Core.Bool.{true, false}
-use mathlib.Core.List.{List, [], _∷_, List·Memᴰ, List·Memᴰ·head, List·Memᴰ·tail, List·Memᴰ·eq-of-singleton}
-use Prim.Native.Nat.{ℕ, zero, suc, _+_, _≤_, _<_, compare, Ordering, Ordering·lt, Ordering·eq, Ordering·gt}
+use mathlib.Core.List.{List, [], _∷_, List·Memᴰ, List·Memᴰ·head, List·Memᴰ·tail}
+use Prim.Native.Nat.{ℕ, zero, suc, _≤_, _<_, compare, Ordering, Ordering·lt, Ordering·eq, Ordering·gt}
 use native.Mathlib.Omega.{arith}
 use Rattle.std.proofs.shelf.Tests.{false≢true}
 use Rattle.std.specs.shelf.Lists.{All}
@@ -19,19 +19,19 @@ use Rattle.diagrams.proofs.Composing.{way-to-restrict, top-good, builds}
 use Rattle.diagrams.proofs.Listed.{all-mem}
 use Rattle.histories.specs.Stores.{Key, Entries}
 use Rattle.histories.specs.Tables.{Phase, Model}
-use Rattle.histories.specs.Steps.{Keyed, Worked}
+use Rattle.histories.specs.Steps.{Keyed}
 use Rattle.histories.proofs.Sound.{Sound}
 use Rattle.places.specs.declared.places.Places.{Places}
 use Rattle.places.specs.Contents.{depth, in-use}
 use Rattle.places.specs.Tables.{holds, Used, Under, Extends}
 use Rattle.places.proofs.Extending.{stays, then, stands-still, under-higher, node-under}
 use Rattle.building.specs.declared.restrict.Start.{Start}
-use Rattle.building.specs.declared.restrict.Start.the-variants.{Handle, Sum, Parts}
+use Rattle.building.specs.declared.restrict.Start.the-variants.{Sum}
 use Rattle.building.specs.Work.{model}
 use Rattle.building.specs.Operations.{restrict-key}
 use Rattle.building.specs.Parts.{No-higher, Joined}
 use Rattle.building.specs.Shortcuts.{floor}
-use Rattle.building.specs.Calls.{Answered, Finished, Ended, Combined, Closed}
+use Rattle.building.specs.Calls.{Answered, Finished, Combined, Closed}
 use Rattle.building.specs.Restricting.{left-of, Restricted, Summed, Above, Starts}
 use Rattle.building.proofs.Seeing.{seen-stands, stands-seen}
 use Rattle.building.proofs.Working.{worked-within}

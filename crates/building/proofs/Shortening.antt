@@ -1,11 +1,11 @@
 -- The shortcuts by handle are those by diagram. Assumes nothing.
-use mathlib.Core.Path.{_≡_, refl, sym, ap, _∙_, subst}
+use mathlib.Core.Path.{_≡_, refl, _∙_, subst}
 use mathlib.Core.Bool.{true}
-use mathlib.Core.Option.{Option, none, some}
-use Prim.Native.Nat.{ℕ, _≤_, _<_, min}
+use mathlib.Core.Option.{Option, some}
+use Prim.Native.Nat.{ℕ, _≤_}
 use native.Mathlib.Omega.{arith}
 use Rattle.diagrams.specs.Kinds.{Kind}
-use Rattle.diagrams.specs.Diagrams.{Diagram, leaf, node, same}
+use Rattle.diagrams.specs.Diagrams.{Diagram, leaf, same}
 use Rattle.diagrams.specs.Tasks.{Operation, sum, difference, product}
 use Rattle.diagrams.specs.Building.{where-same, leaves, quick}
 use Rattle.diagrams.specs.Places.{Content, free, leaf-word, node-at, Stands}

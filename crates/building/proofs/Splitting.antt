@@ -2,7 +2,7 @@
 use mathlib.Core.Path.{_≡_, refl, sym, ap, _∙_, subst}
 use mathlib.Core.Bool.{Bool, true, false}
 use mathlib.Core.List.{List, [], _∷_, List·Memᴰ, List·Memᴰ·head, List·Memᴰ·tail}
-use mathlib.Core.Option.{none, some}
+use mathlib.Core.Option.{none}
 use Prim.Native.Nat.{ℕ, _+_, _≤_, _<_, min}
 use native.Mathlib.Omega.{arith}
 use Rattle.std.proofs.shelf.Tests.{false≢true}
@@ -27,12 +27,11 @@ use Rattle.places.specs.Contents.{depth}
 use Rattle.places.specs.Tables.{holds, Under, Extends}
 use Rattle.places.proofs.Standing.{stands-used}
 use Rattle.places.proofs.Extending.{stays, then, stands-still, under-higher, under-still}
-use Rattle.building.specs.declared.quick.Quick.the-variants.{Split}
 use Rattle.building.specs.Work.{model}
 use Rattle.building.specs.Operations.{combine-key}
-use Rattle.building.specs.Parts.{crossing, No-higher, Parted, Joined}
+use Rattle.building.specs.Parts.{crossing, No-higher, Joined}
 use Rattle.building.specs.Shortcuts.{floor}
-use Rattle.building.specs.Calls.{Answered, Finished, Combined, Basis, Closed}
+use Rattle.building.specs.Calls.{Finished, Combined, Basis, Closed}
 use Rattle.building.proofs.Seeing.{stands-seen}
 use Rattle.building.proofs.Finishing.{Way, way-start, way-step, way-stop, way-end, put-joined, found-stands, sound-zero}
 use Rattle.building.proofs.Beginning.{rooted, good-of, combine-keyed}

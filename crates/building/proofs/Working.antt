@@ -1,22 +1,20 @@
 -- Work composed of smaller work. Assumes nothing.
-use mathlib.Core.Path.{_≡_, refl, sym, ap, _∙_, subst}
+use mathlib.Core.Path.{_≡_, refl, sym, _∙_, subst}
 use mathlib.Core.Bool.{true}
 use mathlib.Core.List.{List, [], _∷_, List·Memᴰ, List·Memᴰ·head, List·Memᴰ·tail, List·Memᴰ·not-nil, List·Memᴰ·cases-cons, List·Memᴰ·eq-of-singleton}
 use mathlib.Core.Logic.{_⊎_, inl, inr}
-use Prim.Native.Nat.{ℕ, _<_}
+use Prim.Native.Nat.{ℕ}
 use native.Mathlib.Omega.{arith}
-use lib.ListN.{length}
-use Rattle.std.specs.declared.option.Option.the-variants.{Some}
 use Rattle.diagrams.specs.Kinds.{Kind}
 use Rattle.diagrams.specs.Layouts.{Layout}
 use Rattle.diagrams.specs.Diagrams.{Diagram}
 use Rattle.diagrams.specs.Tasks.{Task, result}
-use Rattle.diagrams.specs.Building.{smaller, shortcut, Inside, itself, deeper, Needs}
+use Rattle.diagrams.specs.Building.{shortcut, Inside, itself, deeper}
 use Rattle.diagrams.specs.Places.{free}
 use Rattle.diagrams.proofs.Places.{stands-for-one, stands-used}
 use Rattle.histories.specs.Stores.{Key}
-use Rattle.histories.specs.Tables.{Model, capacity, place, content, count, Live, Stands-for, InUse, Outnumber}
-use Rattle.histories.specs.Steps.{Entries-stay, Gains, Needed, Offering, Worked}
+use Rattle.histories.specs.Tables.{Model, content, InUse, Outnumber}
+use Rattle.histories.specs.Steps.{Gains, Needed, Offering, Worked}
 use Rattle.histories.proofs.Sound.{Sound}
 use Rattle.histories.proofs.Standing.{free?, same-content, same-count}
 use Rattle.histories.proofs.Keeping.{Moves, gains-moves}
@@ -64,6 +62,10 @@ module _ {K : Kind} {L : Layout} where
   inside-inside (deeper m i) j = deeper m (inside-inside i j)
 
 module _ (K : Kind) (L : Layout) where
+  -- A call needs its answer.
+  pub own-needed : (task : Task) → Needed K L (task ∷ []) (result K L task)
+  own-needed task = (task, List·Memᴰ·head refl, record { part = task; inside = itself refl; is = refl })
+
   -- Every call of a list is inside one of another.
   abbrev pub Within : List Task → List Task → Type 0
   Within tasks whole = (t : Task) → List·Memᴰ t tasks → (s : Task) × List·Memᴰ s whole × Inside K L s t

@@ -39,6 +39,7 @@ fn leaves<K: Value>(places: &Places, operation: Operation, a: u16, b: u16) -> Qu
     Quick::Split
 }
 
+// Zero is neutral.
 fn quick_sum<K: Value>(places: &Places, a: u16, b: u16) -> Quick
     requires left { ⌜ Used (now places) a ⌝ }
     requires right { ⌜ Used (now places) b ⌝ }
@@ -53,6 +54,7 @@ fn quick_sum<K: Value>(places: &Places, a: u16, b: u16) -> Quick
     leaves::<K>(places, Operation::Sum, a, b)
 }
 
+// Less zero is itself, and less itself is zero.
 fn quick_difference<K: Value>(places: &Places, a: u16, b: u16) -> Quick
     requires left { ⌜ Used (now places) a ⌝ }
     requires right { ⌜ Used (now places) b ⌝ }
@@ -67,6 +69,7 @@ fn quick_difference<K: Value>(places: &Places, a: u16, b: u16) -> Quick
     leaves::<K>(places, Operation::Difference, a, b)
 }
 
+// Times zero is zero, and one is neutral.
 fn quick_product<K: Value>(places: &Places, a: u16, b: u16) -> Quick
     requires left { ⌜ Used (now places) a ⌝ }
     requires right { ⌜ Used (now places) b ⌝ }

@@ -2,7 +2,7 @@ ghost use mathlib.Core.Path.{_≡_};
 ghost use Prim.Native.Nat.{ℕ, _+_, _*_, _<_};
 ghost use Rattle.layouts.specs.Forms.{decomposition};
 ghost use Rattle.layouts.specs.View.{view};
-ghost use Rattle.places.specs.Tables.{Used, Under};
+ghost use Rattle.places.specs.Tables.{Used};
 ghost use Rattle.stores.specs.Keys.{key-of};
 ghost use Rattle.building.specs.Operations.{restrict-key};
 ghost use Rattle.building.specs.Restricting.{left-of, Starts, Restricted};

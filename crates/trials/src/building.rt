@@ -70,17 +70,51 @@ fn points_wrap() -> Result<(), Fail> {
     check_eq(given(table.sum(most, 1))?, 0)
 }
 
-// Yes/no: the sum of two Shannon marks has size 3, so it fits 7 places with the marks and the two leaves, and not 6.
+// Yes/no: the sum of two Shannon marks has size 3: two nodes besides the second mark's. So six places hold it, and five do not.
 #[test]
-fn a_sum_of_two_marks_has_size_3() -> Result<(), Fail> {
+fn a_shannon_sum_of_two_marks_has_size_3() -> Result<(), Fail> {
     let layout = laid_out(2)?;
-    let mut seven = Open::<YesNo, Own>::make(layout, places(7)?, Own::new());
-    let first = given(seven.mark(0))?;
-    let second = given(seven.mark(1))?;
-    let sum = given(seven.sum(first, second))?;
-    check_eq(given(seven.sum(second, first))?, sum)?;
+    let mut six = Open::<YesNo, Own>::make(layout, places(6)?, Own::new());
+    let first = given(six.mark(0))?;
+    let second = given(six.mark(1))?;
+    let sum = given(six.sum(first, second))?;
+    check_eq(given(six.sum(second, first))?, sum)?;
+    check_eq(given(six.difference(sum, second))?, first)?;
     let mut five = Open::<YesNo, Own>::make(layout, places(5)?, Own::new());
     let first = given(five.mark(0))?;
     let second = given(five.mark(1))?;
     check_eq(refused(five.sum(first, second)), 25)
+}
+
+// In positive Davio it has size 2: one node besides the second mark's.
+#[test]
+fn a_davio_sum_of_two_marks_has_size_2() -> Result<(), Fail> {
+    let mut layout = laid_out(2)?;
+    check_eq(refused(layout.set_type(0, 1)), 0)?;
+    check_eq(refused(layout.set_type(1, 1)), 0)?;
+    let mut five = Open::<YesNo, Last>::make(layout, places(5)?, Last::new());
+    let first = given(five.mark(0))?;
+    let second = given(five.mark(1))?;
+    check_eq(refused(five.sum(first, second)), 0)?;
+    let mut four = Open::<YesNo, Last>::make(layout, places(4)?, Last::new());
+    let first = given(four.mark(0))?;
+    let second = given(four.mark(1))?;
+    check_eq(refused(four.sum(first, second)), 25)
+}
+
+// "Or" of two marks: one node besides the second mark's in Shannon (size 2), two in positive Davio (size 3).
+#[test]
+fn either_of_two_marks() -> Result<(), Fail> {
+    let layout = laid_out(2)?;
+    let mut table = Open::<YesNo, Own>::make(layout, places(8)?, Own::new());
+    let first = given(table.mark(0))?;
+    let second = given(table.mark(1))?;
+    let sum = given(table.sum(first, second))?;
+    let both = given(table.product(first, second))?;
+    let either = given(table.sum(sum, both))?;
+    let table = table.release();
+    check_eq(table.grade(either, 0).unwrap_or(9), 0)?;
+    check_eq(table.grade(either, 1).unwrap_or(9), 1)?;
+    check_eq(table.grade(either, 2).unwrap_or(9), 1)?;
+    check_eq(table.grade(either, 3).unwrap_or(9), 1)
 }

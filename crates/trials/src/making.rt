@@ -14,7 +14,7 @@ use stores::own::OwnStore;
 use tables::Open;
 
 // The number of a refusal, 0 where the call is accepted.
-pub fn refused<T: Drop>(answer: Result<T, Refusal>) -> u8 {
+pub(crate) fn refused<T: Drop>(answer: Result<T, Refusal>) -> u8 {
     match answer {
         Ok(_) => 0,
         Err(refusal) => refusal.number(),
@@ -22,7 +22,7 @@ pub fn refused<T: Drop>(answer: Result<T, Refusal>) -> u8 {
 }
 
 // A layout of so many marks.
-pub fn laid_out(marks: u32) -> Result<Layout, Fail> {
+pub(crate) fn laid_out(marks: u32) -> Result<Layout, Fail> {
     match Layout::begin(marks) {
         Ok(layout) => Ok(layout),
         Err(_) => Err(Fail::new("a layout has 1 to 32 marks")),
@@ -30,7 +30,7 @@ pub fn laid_out(marks: u32) -> Result<Layout, Fail> {
 }
 
 // A capacity of so many places.
-pub fn places(number: u32) -> Result<Capacity, Fail> {
+pub(crate) fn places(number: u32) -> Result<Capacity, Fail> {
     match Capacity::new(number) {
         Ok(capacity) => Ok(capacity),
         Err(_) => Err(Fail::new("a capacity is 2 to 4096")),
@@ -38,7 +38,7 @@ pub fn places(number: u32) -> Result<Capacity, Fail> {
 }
 
 // The handle that a call answers.
-pub fn given(answer: Result<u32, Refusal>) -> Result<u32, Fail> {
+pub(crate) fn given(answer: Result<u32, Refusal>) -> Result<u32, Fail> {
     match answer {
         Ok(handle) => Ok(handle),
         Err(_) => Err(Fail::new("the call should be accepted")),

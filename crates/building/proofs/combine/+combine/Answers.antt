@@ -1,4 +1,3 @@
-use Prim.Native.Nat.{_+_}
 use native.Mathlib.Omega.{arith}
 use Rattle.building.specs.Operations.{meant}
 use Rattle.building.proofs.Beginning.{value-combined}
