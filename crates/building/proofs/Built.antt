@@ -19,7 +19,7 @@ use Rattle.histories.specs.Steps.{operation-code, Keyed, Means, Built}
 use Rattle.histories.proofs.Sound.{Sound}
 use Rattle.histories.proofs.Keeping.{gains-moves}
 use Rattle.histories.proofs.Rightness.{keyed-moves}
-use Rattle.building.specs.Calls.{Answered}
+use Rattle.building.specs.Calls.{Brought-back}
 use Rattle.building.proofs.Keys.{keyed-one}
 
 -- A call has one key.
@@ -35,7 +35,7 @@ one-key m apart (restrict d i c) j k p q =
     p .2 ∙ ap (λ (x : ℕ). record { operation = 3; left = x; right = 2 * i + c }) (one-handle (content m) apart d (p .0) (q .0) (p .1) (q .1)) ∙ sym (q .2)
 
 pub answered-built : {K : Kind} {L : Layout} → Lawful K L → (m n : Model) → Sound K L m → (b : Build) (task : Task) (key : Key) (h : ℕ)
-    → Means m b task → Fit K L 0 task → Keyed m task key → Answered K L task key m n h → Built K L m b h n
+    → Means m b task → Fit K L 0 task → Keyed m task key → Brought-back K L task key m n h → Built K L m b h n
 answered-built {K} {L} ok m n sound b task key h means fit keyed done = record {
   task = task;
   means = means;

@@ -29,7 +29,7 @@ use Rattle.places.specs.Tables.{holds, Held, Extends, Filling}
 use Rattle.places.proofs.Extending.{unshared, stands-still, held-still, filling-extends}
 use Rattle.building.specs.Work.{model}
 use Rattle.building.specs.Parts.{spared, No-higher, Joined}
-use Rattle.building.specs.Calls.{Answered, Finished, Closed}
+use Rattle.building.specs.Calls.{Brought-back, Finished, Closed}
 use Rattle.building.proofs.Seeing.{seen-stands, stands-seen, seen-content}
 use Rattle.building.proofs.Toward.{Toward, toward-start, toward-given, toward-gains, toward-full}
 use Rattle.building.proofs.Keys.{keyed-one}
@@ -198,7 +198,7 @@ module _ {K : Kind} {L : Layout} (m : Model) (task : Task) (key : Key) (h : ℕ)
   found-stands = subst (λ z. Stands-for m (result K L z) h) its-call (sound .right key h found .answers)
 
   -- It answers the call: all that the call needs is in use.
-  pub found-answered : Answered K L task key m m h
+  pub found-answered : Brought-back K L task key m m h
   found-answered = record {
     stands = found-stands;
     worked = worked-idle m (task ∷ []) sound (λ d n.

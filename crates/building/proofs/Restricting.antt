@@ -31,7 +31,7 @@ use Rattle.building.specs.Work.{model}
 use Rattle.building.specs.Operations.{restrict-key}
 use Rattle.building.specs.Parts.{No-higher, Joined}
 use Rattle.building.specs.Shortcuts.{floor}
-use Rattle.building.specs.Calls.{Answered, Finished, Combined, Closed}
+use Rattle.building.specs.Calls.{Brought-back, Finished, Combined, Closed}
 use Rattle.building.specs.Restricting.{left-of, Restricted, Summed, Above, Starts}
 use Rattle.building.proofs.Seeing.{seen-stands, stands-seen}
 use Rattle.building.proofs.Working.{worked-within}
@@ -315,7 +315,7 @@ module _ {K : Kind} {L : Layout} {i c h l x y : ℕ} {t : Places} {f : Entries} 
       (restricted (w .kept) tt (λ C. way-stop (task C) (start C) (restrict (C .a) i c) (mem-low C) (w .done (C .ok) (C .a) (C .sa) (C .phase) (C .sound))))
 
   module _ {t1 : Places} {f1 : Entries} {n1 : ℕ} (w1 : Restricted K L i c x t t1 f f1 (Some n1)) where
-    low-done : (C : Case) → Answered K L (restrict (C .a) i c) (restrict-key x i c) (before C) (model L f1 (C .phase) t1) n1
+    low-done : (C : Case) → Brought-back K L (restrict (C .a) i c) (restrict-key x i c) (before C) (model L f1 (C .phase) t1) n1
     low-done C = w1 .done (C .ok) (C .a) (C .sa) (C .phase) (C .sound)
 
     way1 : (C : Case) → Way K L (task C) (restrict (C .a) i c ∷ []) (before C) (model L f1 (C .phase) t1)

@@ -28,7 +28,7 @@ use Rattle.building.specs.Shortcuts.{floor, Quickly}
 module _ (K : Kind) (L : Layout) where
   module _ (task : Task) (key : Key) where
     -- A call with that key brought the handle h, from the table m to n.
-    pub record Answered (m n : Model) (h : ℕ) : Type 0 where
+    pub record Brought-back (m n : Model) (h : ℕ) : Type 0 where
       pub stands : Stands-for n (result K L task) h
       pub worked : Worked K L m (task ∷ []) n
       -- After a call that is no shortcut the store answers its key.
@@ -39,7 +39,7 @@ module _ (K : Kind) (L : Layout) where
     -- It brought a handle, or there was no room for what it needs.
     abbrev pub Finished : Model → Model → Option ℕ → Type 0
     Finished m n None = Outnumber m (Needed K L (task ∷ []))
-    Finished m n (Some h) = Answered m n h
+    Finished m n (Some h) = Brought-back m n h
 
     -- The same from the places t to u and from the entries f to g, of whatever sound table they are.
     abbrev pub Ended : Places → Places → Entries → Entries → Option ℕ → Type 0

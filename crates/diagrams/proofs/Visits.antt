@@ -18,7 +18,7 @@ abbrev pub Mem : Diagram → List Diagram → Type 0
 Mem d ds = List·Memᴰ d ds
 
 -- By cases whether a diagram stands in a list.
-by-among : {A : Type 0} (d : Diagram) (ds : List Diagram) (x y : A) (P : A → Type 0) → (Mem d ds → P x) → (¬ Mem d ds → P y)
+pub by-among : {A : Type 0} (d : Diagram) (ds : List Diagram) (x y : A) (P : A → Type 0) → (Mem d ds → P x) → (¬ Mem d ds → P y)
     → P (elim (among d ds) [ yes _ ↦ x | no _ ↦ y ])
 by-among d ds x y P p q = elim (among d ds) as (λ s. P (elim s [ yes _ ↦ x | no _ ↦ y ])) [ yes m ↦ p m | no n ↦ q n ]
 

@@ -39,7 +39,7 @@ abbrev pub extent : Diagram → ℕ
 extent d = different (nodes d)
 
 -- What is reached from a diagram: itself, and what is reached from its children.
-pub data Part (x : Diagram) : Diagram → Type 0 where
-  itself : {d : Diagram} → x ≡ d → Part x d
-  in-low : {l : ℕ} {a b : Diagram} → Part x a → Part x (node l a b)
-  in-high : {l : ℕ} {a b : Diagram} → Part x b → Part x (node l a b)
+pub data Within (x : Diagram) : Diagram → Type 0 where
+  itself : {d : Diagram} → x ≡ d → Within x d
+  in-low : {l : ℕ} {a b : Diagram} → Within x a → Within x (node l a b)
+  in-high : {l : ℕ} {a b : Diagram} → Within x b → Within x (node l a b)

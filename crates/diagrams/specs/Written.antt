@@ -8,7 +8,7 @@ use Rattle.std.specs.shelf.Lists.{All}
 use Rattle.diagrams.specs.Kinds.{Kind}
 use Rattle.diagrams.specs.Layouts.{Layout}
 use Rattle.diagrams.specs.Diagrams.{Lawful, Diagram, node, rule, Good}
-use Rattle.diagrams.specs.Sizes.{Part, extent}
+use Rattle.diagrams.specs.Sizes.{among, Within, extent}
 use Rattle.diagrams.specs.Sheets.{visited, sheet}
 use Rattle.diagrams.specs.Reading.{drawn, fault, last, Follow, read-sheet, Faulty}
 
@@ -36,7 +36,7 @@ Faults = (K : Kind) (L : Layout) (limit : ℕ) → Lawful K L → limit < 65536 
 -- What is written of a diagram: all that is reached from it and no more, once each, children before parents, the diagram itself last.
 abbrev pub Ordered : Type 0
 Ordered = (K : Kind) (L : Layout) (d : Diagram) → Good K L 0 d
-    → Follow K L [] (visited d []) × ((x : Diagram) → List·Memᴰ x (visited d []) ↔ Part x d) × (last (visited d []) ≡ d)
+    → Follow K L [] (visited d []) × ((x : Diagram) → List·Memᴰ x (visited d []) ↔ Within x d) × (last (visited d []) ≡ d)
 
 -- Twelve bytes and two for each level, eight for each leaf or node, and one more for each node.
 abbrev pub Measured : Type 0
@@ -46,6 +46,12 @@ Measured = (K : Kind) (L : Layout) (d : Diagram) → Good K L 0 d → length (sh
 abbrev pub Spelled : Type 0
 Spelled = (K : Kind) (L : Layout) → Lawful K L → (d : Diagram) → Good K L 0 d → All (λ b. b < 256) (sheet K L d)
 
--- Low before high: the records of a node begin with those of its low child, as that child's own sheet has them, and end with the node.
+-- Those of a list that are not among those seen, in order.
+abbrev pub unseen : List Diagram → List Diagram → List Diagram
+unseen seen [] = []
+unseen seen (d ∷ ds) = elim (among d seen) [ yes _ ↦ unseen seen ds | no _ ↦ d ∷ unseen seen ds ]
+
+-- Low before high: the records of a node are those of its low child, those of its high child but for what came before, each as the child's own
+-- sheet has them, then the node.
 abbrev pub Low-first : Type 0
-Low-first = (l : ℕ) (a b : Diagram) → (between : List Diagram) × (visited (node l a b) [] ≡ visited a [] ++ between ++ (node l a b ∷ []))
+Low-first = (l : ℕ) (a b : Diagram) → visited (node l a b) [] ≡ visited a [] ++ unseen (visited a []) (visited b []) ++ (node l a b ∷ [])

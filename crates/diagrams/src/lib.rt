@@ -94,7 +94,7 @@ pub fn writes_in_order() -> u8
     0
 }
 
-// A node's records begin with those of its low child, as that child's own sheet has them, and end with the node.
+// A node's records are its low child's, its high child's but for what came before, each as on the child's own sheet, then the node.
 pub fn low_first() -> u8
     ensures { λ _. ⌜ Low-first ⌝ }
 {

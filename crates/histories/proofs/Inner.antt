@@ -8,7 +8,7 @@ use Rattle.diagrams.specs.Layouts.{Layout}
 use Rattle.diagrams.specs.Diagrams.{Lawful, Diagram, node, Good}
 use Rattle.diagrams.specs.Tasks.{Task, Fit}
 use Rattle.diagrams.specs.Building.{smaller, Inside, itself as whole, deeper, Needs}
-use Rattle.diagrams.specs.Sizes.{Part, itself, in-low, in-high}
+use Rattle.diagrams.specs.Sizes.{Within, itself, in-low, in-high}
 use Rattle.diagrams.proofs.Results.{answered, fit-up}
 use Rattle.diagrams.proofs.Deeper.{deepens}
 use Rattle.diagrams.proofs.Listed.{all-mem}
@@ -35,7 +35,7 @@ module _ {K : Kind} {L : Layout} where
     needs-good n fit = rw (n .is) (answered K L ok 0 (omega arith) (n .part) (inside-fit (n .inside) fit) .0)
 
     -- The parts of a good diagram are good.
-    pub part-good : (e d : Diagram) → Good K L 0 d → Part e d → Good K L 0 e
+    pub part-good : (e d : Diagram) → Good K L 0 d → Within e d → Good K L 0 e
     part-good e d g (itself r) = rw r g
     part-good e (node l a b) g (in-low q) = part-good e a (good-up ok 0 (suc l) a (omega arith) (g .2)) q
     part-good e (node l a b) g (in-high q) = part-good e b (good-up ok 0 (suc l) b (omega arith) (g .3)) q

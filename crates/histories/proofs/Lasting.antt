@@ -61,7 +61,7 @@ module _ (K : Kind) (L : Layout) where
 
     module _ (log : Log) (m : Model) (p : History K L log m) where
       start : Reachable K L (p .first)
-      start = fresh (p .capacity) (p .made)
+      start = fresh (p .places) (p .made)
 
       pub reached : Reachable K L m
       reached = since-reachable (p .since) start
@@ -72,7 +72,7 @@ module _ (K : Kind) (L : Layout) where
         ruled = λ h l. let g = reachable-sound ok reached .good h l in (rule K L (g .0), (g .0, g .2, λ w _. refl));
         same-handle = handles-meet ok m (reachable-sound ok reached);
         one-rule = λ later n s h f r u. since-rule s reached h f r u;
-        booked = since-fits (p .since) (p .capacity) (p .made) .rules;
+        booked = since-fits (p .since) (p .places) (p .made) .rules;
       }
 
     -- A written sheet is that of the diagram for which its handle stands.

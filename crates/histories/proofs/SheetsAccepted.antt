@@ -9,7 +9,7 @@ use lib.ListN.{length}
 use Rattle.diagrams.specs.Kinds.{Kind}
 use Rattle.diagrams.specs.Layouts.{Layout}
 use Rattle.diagrams.specs.Diagrams.{Lawful, Diagram, rule, Good}
-use Rattle.diagrams.specs.Sizes.{Part}
+use Rattle.diagrams.specs.Sizes.{Within}
 use Rattle.diagrams.specs.Sheets.{visited, sheet}
 use Rattle.diagrams.specs.Reading.{read-sheet, drawn, fault, Faulty}
 use Rattle.diagrams.proofs.Visits.{follow-distinct}
@@ -42,9 +42,9 @@ outnumber-more m P Q more o = (o .0, o .1, λ d q. elim (o .2 d q) [ inl u ↦ i
 
 module _ (K : Kind) (L : Layout) (ok : Lawful K L) (m : Model) where
   -- Where a record finds the table full, the whole sheet outnumbers its places.
-  fills-full : (d : Diagram) (p : ℕ) → Good K L 0 d → Fills K L m d p → Outnumber m (λ x. Part x d)
+  fills-full : (d : Diagram) (p : ℕ) → Good K L 0 d → Fills K L m d p → Outnumber m (λ x. Within x d)
   fills-full d p g f =
-      outnumber-more m (λ x. List·Memᴰ x (f .before ++ (f .here ∷ []))) (λ x. Part x d)
+      outnumber-more m (λ x. List·Memᴰ x (f .before ++ (f .here ∷ []))) (λ x. Within x d)
       (λ e q. ordered K L d g .1 e .0 (subst (List·Memᴰ e) (sym (f .all)) (longer e (List·Memᴰ·append-cases (f .before) q)))) (f .full)
     where
       longer : (e : Diagram) → List·Memᴰ e (f .before) ⊎ List·Memᴰ e (f .here ∷ []) → List·Memᴰ e (f .before ++ (f .here ∷ f .after))
@@ -52,7 +52,7 @@ module _ (K : Kind) (L : Layout) (ok : Lawful K L) (m : Model) where
       longer e (inr q) = Memᴰ·append-right (f .before) (List·Memᴰ·head (List·Memᴰ·eq-of-singleton q))
 
   -- A sheet that fits has no more records than the table has places.
-  fits-few : (d : Diagram) → Good K L 0 d → ¬ Outnumber m (λ x. Part x d) → length (visited d []) ≤ capacity m
+  fits-few : (d : Diagram) → Good K L 0 d → ¬ Outnumber m (λ x. Within x d) → length (visited d []) ≤ capacity m
   fits-few d g fits =
       elim (decLt (capacity m) (length (visited d []))) [
         | yes l ↦ absurd (fits (visited d [], follow-distinct K L [] (visited d []) tt (ordered K L d g .0), λ e q. inr (ordered K L d g .1 e .0 q), l))
@@ -75,16 +75,16 @@ module _ (K : Kind) (L : Layout) (ok : Lawful K L) (m : Model) where
     pub sheet-not-faulty : (s : List ℕ) (d : Diagram) → Sheet K L m s d → (f p : ℕ) → ¬ Faulty K L (capacity m) s f p
     sheet-not-faulty s d w f p faulty = drawn-faults (sym (read-back s d w) ∙ fault-told s f p faulty)
 
-    pub sheet-not-full : (s : List ℕ) (d : Diagram) → Sheet K L m s d → ¬ Outnumber m (λ x. Part x d)
+    pub sheet-not-full : (s : List ℕ) (d : Diagram) → Sheet K L m s d → ¬ Outnumber m (λ x. Within x d)
         → (f p : ℕ) → ¬ ((f ≡ 25) × ((e : Diagram) × Sheet K L m s e × Fills K L m e p))
     sheet-not-full s d w fits f p full =
         let e = full .1 .0 in
         let same = one-sheet s e d (full .1 .1) w in
-        fits (subst (λ x. Outnumber m (λ y. Part y x)) same (fills-full e p (full .1 .1 .good) (full .1 .2)))
+        fits (subst (λ x. Outnumber m (λ y. Within y x)) same (fills-full e p (full .1 .1 .good) (full .1 .2)))
 
     module _ (n : Model) (q : Asked) (a : Answer) (s : List ℕ) (after : Sound K L n) (asks : q .call ≡ read s) where
       -- A sheet that fits is not refused.
-      not-refused : capacity m ≤ length (q .walk) → (d : Diagram) → Sheet K L m s d → ¬ Outnumber m (λ x. Part x d)
+      not-refused : capacity m ≤ length (q .walk) → (d : Diagram) → Sheet K L m s d → ¬ Outnumber m (λ x. Within x d)
           → (f p : ℕ) → First (faults K L m q (q .call)) f p → ⊥
       not-refused long d w fits f p first = by-cases (subst (λ c. First (faults K L m q c) f p) asks first)
         where
@@ -112,14 +112,14 @@ module _ (K : Kind) (L : Layout) (ok : Lawful K L) (m : Model) where
               | inr r ↦ absurd (gives-refuses (sym e ∙ r .told))
             ]
 
-        only-sheets : ((h : ℕ) × (a .reply ≡ gives h)) → (d : Diagram) × Good K L 0 d × (s ≡ sheet K L d) × (¬ Outnumber m (λ x. Part x d))
+        only-sheets : ((h : ℕ) × (a .reply ≡ gives h)) → (d : Diagram) × Good K L 0 d × (s ≡ sheet K L d) × (¬ Outnumber m (λ x. Within x d))
         only-sheets g =
             elim (step .outcome) [
               | inl r ↦ let t = taken (r .does) .2 in (t .diagram, t .written .good, t .written .bytes, gains-fit after (t .gains))
               | inr r ↦ absurd (gives-refuses (sym (g .1) ∙ r .told))
             ]
 
-        all-sheets : capacity m ≤ length (q .walk) → ((d : Diagram) × Good K L 0 d × (s ≡ sheet K L d) × (¬ Outnumber m (λ x. Part x d)))
+        all-sheets : capacity m ≤ length (q .walk) → ((d : Diagram) × Good K L 0 d × (s ≡ sheet K L d) × (¬ Outnumber m (λ x. Within x d)))
             → (h : ℕ) × (a .reply ≡ gives h)
         all-sheets long g =
             elim (step .outcome) [

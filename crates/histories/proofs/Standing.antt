@@ -9,7 +9,7 @@ use Rattle.std.proofs.shelf.Lists.{getD-past}
 use Rattle.diagrams.specs.Kinds.{Kind}
 use Rattle.diagrams.specs.Layouts.{Layout}
 use Rattle.diagrams.specs.Diagrams.{Lawful, Diagram, node, rule, Good}
-use Rattle.diagrams.specs.Sizes.{Part, itself, in-low, in-high}
+use Rattle.diagrams.specs.Sizes.{Within, itself, in-low, in-high}
 use Rattle.diagrams.specs.Places.{Content, free, leaf-word, node-at, Place, vacant, Stands}
 use Rattle.diagrams.proofs.Places.{stands-for-one, stands-used, one-handle}
 use Rattle.diagrams.proofs.Canon.{canonical}
@@ -40,7 +40,7 @@ live-within m h live =
     elim (decLt h (capacity m)) [ yes l ↦ l | no n ↦ absurd (live (ap (λ (p : Place). p .content) (getD-past (m .places) h vacant (omega arith)))) ]
 
 -- The parts of a diagram in use are in use.
-pub part-stands : (at : ℕ → Content) (e d : Diagram) (h : ℕ) → Stands at d h → Part e d → (g : ℕ) × Stands at e g
+pub part-stands : (at : ℕ → Content) (e d : Diagram) (h : ℕ) → Stands at d h → Within e d → (g : ℕ) × Stands at e g
 part-stands at e d h p (itself r) = (h, subst (λ x. Stands at x h) (sym r) p)
 part-stands at e (node l a b) h p (in-low q) = part-stands at e a (p .0) (p .3) q
 part-stands at e (node l a b) h p (in-high q) = part-stands at e b (p .1) (p .4) q

@@ -8,7 +8,7 @@ use Rattle.std.specs.declared.option.Option.the-variants.{Some}
 use Rattle.diagrams.specs.Kinds.{Kind}
 use Rattle.diagrams.specs.Layouts.{Layout}
 use Rattle.diagrams.specs.Diagrams.{Lawful, Diagram, rule, Good}
-use Rattle.diagrams.specs.Sizes.{Part}
+use Rattle.diagrams.specs.Sizes.{Within}
 use Rattle.diagrams.specs.Sheets.{sheet}
 use Rattle.diagrams.specs.Places.{free}
 use Rattle.histories.specs.Tables.{Model, capacity, content, Live, Outnumber, Agree, Has-rule, Made}
@@ -28,7 +28,7 @@ pub data Reachable (K : Kind) (L : Layout) : Model → Type 0 where
 -- With a walk list long enough, reading accepts bytes exactly when they are the sheet of some rule of that layout and kind and the table can
 -- hold it; its answer has that rule.
 pub record Reads (K : Kind) (L : Layout) (m : Model) (s : List ℕ) (a : Answer) (n : Model) : Type 0 where
-  pub exactly : ((h : ℕ) × (a .reply ≡ gives h)) ↔ ((d : Diagram) × Good K L 0 d × (s ≡ sheet K L d) × (¬ Outnumber m (λ x. Part x d)))
+  pub exactly : ((h : ℕ) × (a .reply ≡ gives h)) ↔ ((d : Diagram) × Good K L 0 d × (s ≡ sheet K L d) × (¬ Outnumber m (λ x. Within x d)))
   pub answers : (h : ℕ) → a .reply ≡ gives h → (d : Diagram) × (s ≡ sheet K L d) × Has-rule K L n h (rule K L d)
 
 -- What is true of a call that was answered by a step: the step, and for a read what it accepts.
@@ -49,8 +49,8 @@ module _ (K : Kind) where
   -- The calls and answers since the making of a table of layout L.
   pub record History (L : Layout) (log : Log) (m : Model) : Type 0 where
     pub first : Model
-    pub capacity : ℕ
-    pub made : Made K L capacity first
+    pub places : ℕ
+    pub made : Made K L places first
     pub since : Since first log m
 
   -- Each call was answered as its step says.

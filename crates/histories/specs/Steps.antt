@@ -13,7 +13,7 @@ use Rattle.diagrams.specs.Diagrams.{Diagram, rule, Good}
 use Rattle.diagrams.specs.Tasks
 use Rattle.diagrams.specs.Tasks.{Operation, sum, difference, product, Task, meaning, result}
 use Rattle.diagrams.specs.Building.{shortcut, Inside, Needs}
-use Rattle.diagrams.specs.Sizes.{extent, Part}
+use Rattle.diagrams.specs.Sizes.{extent, Within}
 use Rattle.diagrams.specs.Sheets.{visited, records, header, sheet}
 use Rattle.diagrams.specs.Reading.{Faulty}
 use Rattle.diagrams.specs.Places.{Content, free, node-at, Place, vacant, Unshared}
@@ -45,17 +45,17 @@ Keyed m (Tasks.combine o a b) k =
 Keyed m (Tasks.restrict d i v) k = (x : ℕ) × Stands-for m d x × (k ≡ record { operation = 3; left = x; right = 2 * i + v })
 
 -- How many entries of its walk list a call uses; none where it takes no list.
-abbrev pub room : Model → Call → ℕ
-room m (build b) = 0
-room m (read s) = capacity m
-room m (hold h) = 0
-room m (let-go h) = 0
-room m sweep = capacity m
-room m (look (size h)) = capacity m
-room m (look (write h)) = capacity m
-room m (look (grade h fruit)) = 0
-room m release = 0
-room m reopen = 0
+abbrev pub walk-room : Model → Call → ℕ
+walk-room m (build b) = 0
+walk-room m (read s) = capacity m
+walk-room m (hold h) = 0
+walk-room m (let-go h) = 0
+walk-room m sweep = capacity m
+walk-room m (look (size h)) = capacity m
+walk-room m (look (write h)) = capacity m
+walk-room m (look (grade h fruit)) = 0
+walk-room m release = 0
+walk-room m reopen = 0
 
 -- A walk list on every way out: where it is long enough its first entries are zero, and all else stays.
 abbrev pub wiped : ℕ → List ℕ → List ℕ
@@ -165,7 +165,7 @@ module _ (K : Kind) (L : Layout) where
     pub diagram : Diagram
     pub written : Sheet m s diagram
     pub answers : Stands-for n diagram h
-    pub gains : Gains m n (λ d. Part d diagram)
+    pub gains : Gains m n (λ d. Within d diagram)
     pub entries : Entries-stay m n
 
   -- p is the byte place of the first record in the sheet of d that finds the table full. `visited` lists the diagrams that its records stand for (`Ordered`).
@@ -185,7 +185,7 @@ module _ (K : Kind) (L : Layout) where
 
     -- Refusal 11: the walk list is shorter than the capacity.
     abbrev pub Short : ℕ → ℕ → Type 0
-    Short = due 11 (length (q .walk) < room m (q .call))
+    Short = due 11 (length (q .walk) < walk-room m (q .call))
 
     -- Refusal 25 of a building call: the rules in use and the needed ones outnumber the capacity.
     abbrev pub Full : Build → ℕ → ℕ → Type 0
@@ -256,5 +256,5 @@ module _ (K : Kind) (L : Layout) where
       pub takes : Takes (q .call) (m .phase)
       pub lent : Lent (q .call) (q .walk) (q .output)
       pub layout : n .layout ≡ m .layout
-      pub walk : a .walk ≡ wiped (room m (q .call)) (q .walk)
+      pub walk : a .walk ≡ wiped (walk-room m (q .call)) (q .walk)
       pub outcome : Accepted a n ⊎ Refused a n

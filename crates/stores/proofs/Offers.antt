@@ -17,7 +17,7 @@ use Rattle.std.specs.declared.option.Option.the-variants.{None, Some}
 use Rattle.histories.specs.Stores.{Key, Entries, Offered, Forgotten, same-key}
 use Rattle.stores.specs.declared.Entry.{Entry}
 use Rattle.stores.specs.Keys.{key-of}
-use Rattle.stores.specs.Kept.{Alike, nothing, over, on-top, hash, slot-of, in-slots, cleared, written, spilled}
+use Rattle.stores.specs.Kept.{Same-answers, nothing, over, on-top, hash, slot-of, in-slots, cleared, written, spilled}
 
 same-own : (k : Key) → same-key k k ≡ true
 same-own k = grind (arith, tells)
@@ -38,7 +38,7 @@ read list e i j k b own =
     (cases-eq i j)
 
 pub written-slots : (list : List (Option Entry)) (e : Entry)
-    → Alike (in-slots (set list (slot-of (length list) (key-of (e .key))) (Some e))) (spilled (length list) (Some e) (in-slots list))
+    → Same-answers (in-slots (set list (slot-of (length list) (key-of (e .key))) (Some e))) (spilled (length list) (Some e) (in-slots list))
 written-slots [] e k = refl
 written-slots (x ∷ xs) e k =
     let j : ℕ = slot-of (length (x ∷ xs)) (key-of (e .key)) in
@@ -56,7 +56,7 @@ pub empty-slots : (list : List (Option Entry)) (n : ℕ) → list ≡ replicate 
 empty-slots list n h k = ap (λ (o : Option Entry). on-top o nothing k) (ap (λ (l : List (Option Entry)). getD l (slot-of (length list) k) None) h ∙ none-at n (slot-of (length list) k))
 
 -- An offer that stands over nothing but what was there before.
-pub offered : (before after kept : Entries) (key : Key) (answer : ℕ) → Alike after (over key answer kept)
+pub offered : (before after kept : Entries) (key : Key) (answer : ℕ) → Same-answers after (over key answer kept)
     → ((k : Key) (h : ℕ) → kept k ≡ Some h → before k ≡ Some h) → Offered before after key answer
 offered before after kept key answer told less = record { newest = told key ∙ rw (same-own key); only = from }
   where
@@ -86,18 +86,18 @@ spilled-less n (Some x) before k h e =
     less (eqb n 0) (same-key k (key-of (x .key))) (eqb (slot-of n k) (slot-of n (key-of (x .key)))) (Some (x .answer)) (before k) h e
 
 -- Written to one of m slots, an entry is an offer to them.
-pub written-offer : (before after : Entries) (m n : ℕ) (e : Entry) → m ≡ n → 0 < n → Alike after (spilled m (Some e) before)
-    → Alike after (written n (key-of (e .key)) (e .answer) before) × Offered before after (key-of (e .key)) (e .answer)
+pub written-offer : (before after : Entries) (m n : ℕ) (e : Entry) → m ≡ n → 0 < n → Same-answers after (spilled m (Some e) before)
+    → Same-answers after (written n (key-of (e .key)) (e .answer) before) × Offered before after (key-of (e .key)) (e .answer)
 written-offer before after m n e q h told =
-    let kept : Alike after (written n (key-of (e .key)) (e .answer) before) = λ k. rw (q, ne-eqb n 0 (λ z. omega arith)) at (told k) in
+    let kept : Same-answers after (written n (key-of (e .key)) (e .answer) before) = λ k. rw (q, ne-eqb n 0 (λ z. omega arith)) at (told k) in
     (kept, offered before after (cleared n (key-of (e .key)) before) (key-of (e .key)) (e .answer) kept (cleared-less n (key-of (e .key)) before))
 
 -- Once the former entry is spilled, another that stands over the slots is an offer to both.
-pub spilled-offer : (before after : Entries) (n : ℕ) (former : Option Entry) (e : Entry) → Alike after (spilled n former before)
-    → Alike (on-top (Some e) after) (over (key-of (e .key)) (e .answer) (spilled n former before))
+pub spilled-offer : (before after : Entries) (n : ℕ) (former : Option Entry) (e : Entry) → Same-answers after (spilled n former before)
+    → Same-answers (on-top (Some e) after) (over (key-of (e .key)) (e .answer) (spilled n former before))
     × Offered (on-top former before) (on-top (Some e) after) (key-of (e .key)) (e .answer)
 spilled-offer before after n former e told =
-    let kept : Alike (on-top (Some e) after) (over (key-of (e .key)) (e .answer) (spilled n former before)) =
+    let kept : Same-answers (on-top (Some e) after) (over (key-of (e .key)) (e .answer) (spilled n former before)) =
     λ k. ap (λ (o : Option ℕ). cond (same-key k (key-of (e .key))) (Some (e .answer)) o) (told k)
     in
     (kept, offered (on-top former before) (on-top (Some e) after) (spilled n former before) (key-of (e .key)) (e .answer) kept (spilled-less n former before))
@@ -107,6 +107,6 @@ pub no-slots : (list : List (Option Entry)) → length list ≡ 0 → Forgotten 
 no-slots [] h k = refl
 no-slots (x ∷ xs) h k = absurd (omega arith)
 
-pub unwritten-slots : (list : List (Option Entry)) (e : Entry) → length list ≡ 0 → Alike (in-slots list) (spilled (length list) (Some e) (in-slots list))
+pub unwritten-slots : (list : List (Option Entry)) (e : Entry) → length list ≡ 0 → Same-answers (in-slots list) (spilled (length list) (Some e) (in-slots list))
 unwritten-slots [] e h k = refl
 unwritten-slots (x ∷ xs) e h k = absurd (omega arith)

@@ -17,8 +17,8 @@ use Rattle.stores.specs.declared.own.Own.{Own}
 use Rattle.stores.specs.Keys.{key-of}
 
 -- Two sets of entries are alike where every key is answered alike.
-abbrev pub Alike : Entries → Entries → Type 0
-Alike left right = (k : Key) → left k ≡ right k
+abbrev pub Same-answers : Entries → Entries → Type 0
+Same-answers left right = (k : Key) → left k ≡ right k
 
 -- No entries.
 abbrev pub nothing : Entries
@@ -84,7 +84,7 @@ lent-entries s = on-top (s .newest) (listed s)
 
 -- A lent store after an offer. The offer stands over what the list answers, and is the newest; the former newest offer is spilled to its slot of the list.
 pub record Renewed (before after : Lent) (key : Asked) (answer : ℕ) : Type 0 where
-  pub kept : Alike (lent-entries after) (over (key-of key) answer (spilled (size before) (before .newest) (listed before)))
+  pub kept : Same-answers (lent-entries after) (over (key-of key) answer (spilled (size before) (before .newest) (listed before)))
   pub newest : after .newest ≡ Some (record { key = key; answer = answer })
-  pub list : Alike (listed after) (spilled (size before) (before .newest) (listed before))
+  pub list : Same-answers (listed after) (spilled (size before) (before .newest) (listed before))
   pub slots : size after ≡ size before

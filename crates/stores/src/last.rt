@@ -1,7 +1,7 @@
 // A store that keeps the last offer only.
 ghost use Rattle.histories.specs.Stores.{Offered, Forgotten};
 ghost use Rattle.stores.specs.Keys.{key-of};
-ghost use Rattle.stores.specs.Kept.{Alike, last-entries, only};
+ghost use Rattle.stores.specs.Kept.{Same-answers, last-entries, only};
 use crate::Entry;
 use crate::Key;
 use crate::Store;
@@ -30,7 +30,7 @@ pub impl Store for Last as LastStore {
 
     fn offer(&mut self, key: Key, answer: u16)
         ensures offered { λ _. ⌜ Offered (last-entries (now (self .entry))) (last-entries (now (self .exit))) (key-of key) answer ⌝ }
-        ensures kept { λ _. ⌜ Alike (last-entries (now (self .exit))) (only (key-of key) answer) ⌝ }
+        ensures kept { λ _. ⌜ Same-answers (last-entries (now (self .exit))) (only (key-of key) answer) ⌝ }
     {
         self.newest = Some(Entry { key, answer });
     }

@@ -4,7 +4,7 @@ ghost use mathlib.Core.Path.{_≡_};
 ghost use Rattle.std.specs.declared.option.Option.the-variants.{None};
 ghost use Rattle.histories.specs.Stores.{Offered, Forgotten};
 ghost use Rattle.stores.specs.Keys.{key-of};
-ghost use Rattle.stores.specs.Kept.{Alike, Renewed, in-slots, lent-entries, size};
+ghost use Rattle.stores.specs.Kept.{Same-answers, Renewed, in-slots, lent-entries, size};
 use crate::Entry;
 use crate::Key;
 use crate::Store;
@@ -21,7 +21,7 @@ impl<'a> Lent<'a> {
     pub fn over(list: &'a mut [Option<Entry>]) -> Lent<'a>
         ensures lent { λ r. ⌜ r .list ≡ list .entry ⌝ }
         ensures fresh { λ r. ⌜ r .newest ≡ None ⌝ }
-        ensures made { λ r. ⌜ Alike (lent-entries r) (in-slots (now (list .entry))) ⌝ }
+        ensures made { λ r. ⌜ Same-answers (lent-entries r) (in-slots (now (list .entry))) ⌝ }
     {
         Lent { list, newest: None }
     }

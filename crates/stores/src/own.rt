@@ -1,7 +1,7 @@
 // A store with 256 entries of its own, each written over the slot of its key.
 ghost use Rattle.histories.specs.Stores.{Offered, Forgotten};
 ghost use Rattle.stores.specs.Keys.{key-of};
-ghost use Rattle.stores.specs.Kept.{Alike, in-slots, own-entries, written};
+ghost use Rattle.stores.specs.Kept.{Same-answers, in-slots, own-entries, written};
 use crate::Entry;
 use crate::Key;
 use crate::Store;
@@ -37,7 +37,7 @@ pub impl Store for Own as OwnStore {
 
     fn offer(&mut self, key: Key, answer: u16)
         ensures offered { λ _. ⌜ Offered (own-entries (now (self .entry))) (own-entries (now (self .exit))) (key-of key) answer ⌝ }
-        ensures kept { λ _. ⌜ Alike (own-entries (now (self .exit))) (written 256 (key-of key) answer (own-entries (now (self .entry)))) ⌝ }
+        ensures kept { λ _. ⌜ Same-answers (own-entries (now (self .exit))) (written 256 (key-of key) answer (own-entries (now (self .entry)))) ⌝ }
     {
         slots::write(&mut self.list, Entry { key, answer });
     }

@@ -3,11 +3,13 @@ use mathlib.Core.List.{List, []}
 use Prim.Native.Nat.{ℕ}
 use Rattle.std.specs.declared.result.Result.{Result}
 use Rattle.std.specs.declared.result.Result.the-variants.{Ok, Err}
+use Rattle.diagrams.specs.Kinds.{Kind}
 use Rattle.histories.specs.Stores.{Entries}
 use Rattle.histories.specs.Tables.{opened, released, Model}
 use Rattle.histories.specs.Builds
 use Rattle.histories.specs.Requests.{Call, Asked, Reply, gives, refused, Answer}
 use Rattle.histories.specs.Steps.{layer}
+use Rattle.histories.specs.Histories.{Kept}
 use Rattle.refusals.specs.Refusals.{number}
 use Rattle.refusals.specs.declared.refusal.Refusal.{Refusal}
 use Rattle.layouts.specs.View.{view}
@@ -39,6 +41,15 @@ replies reply = record { reply = reply; walk = []; output = [] }
 abbrev pub gave : Result ℕ Refusal → Answer
 gave (Ok x) = replies (gives x)
 gave (Err e) = replies (refused (number e) (layer (number e)) 0)
+
+module _ {K S : Type 0} (kind : Kind) (entries : S → Entries) where
+  -- What each call of an open table promises: on a table to which steps lead from a making, it takes the step of that call.
+  abbrev pub Open-step : Open K S → Call → Result ℕ Refusal → Open K S → Type 0
+  Open-step before call answer after = Kept kind (open-model entries before) (plain call) (gave answer) (open-model entries after)
+
+  -- The same of a call that leaves a released table as it is.
+  abbrev pub Released-step : Released K S → Call → Result ℕ Refusal → Type 0
+  Released-step table call answer = Kept kind (released-model entries table) (plain call) (gave answer) (released-model entries table)
 
 -- The building call of the specification that a value of the code is.
 abbrev pub meant : Build → Builds.Build

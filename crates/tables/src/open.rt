@@ -1,13 +1,14 @@
 ghost use mathlib.Core.Path.{_≡_};
+ghost use Rattle.diagrams.specs.Diagrams.{Lawful};
 ghost use Rattle.diagrams.specs.Tasks.{Operation.sum as Sum, Operation.difference as Difference, Operation.product as Product};
 ghost use Rattle.histories.specs.Tables.{Made};
 ghost use Rattle.histories.specs.Builds.{Build.constant as Constant, Build.mark as Mark, Build.combine as Combine, Build.restrict as Restrict};
-ghost use Rattle.histories.specs.Requests.{Call.build as Built, Call.release as Release, Reply.done as Done};
+ghost use Rattle.histories.specs.Requests.{Call.build as Building, Call.release as Release, Reply.done as Done};
 ghost use Rattle.histories.specs.Histories.{Kept, Sameness};
 ghost use Rattle.layouts.specs.View.{view};
 ghost use Rattle.building.specs.Operations.{meant as operated};
 ghost use Rattle.places.specs.Tables.{kept};
-ghost use Rattle.tables.specs.Models.{open-model, released-model, plain, replies, gave, meant};
+ghost use Rattle.tables.specs.Models.{open-model, released-model, plain, replies, Open-step, meant};
 ghost use Rattle.tables.specs.Settling.{Settled};
 use crate::call::Build;
 use crate::released::Released;
@@ -37,13 +38,16 @@ impl<K: Value, S: Store> Open<K, S> {
     /// Makes a table that holds zero and one, over a store that has forgotten. What is promised of every history of calls since a making is stated here.
     pub fn make(layout: Layout, capacity: Capacity, store: S) -> Open<K, S>
         ensures made { λ r. ⌜ Made (K·Value .kind) (view layout) (capacity .places) (open-model (S·Store .entries) r) ⌝ }
+        ensures lawful { λ _. ⌜ Lawful (K·Value .kind) (view layout) ⌝ }
         ensures sameness { λ _. ⌜ Sameness ⌝ }
     {
         Self::start(layout, capacity, store)
     }
 
+    // The first two places hold zero and one; what a lent list held before is forgotten.
     fn start(layout: Layout, capacity: Capacity, mut store: S) -> Open<K, S>
         ensures made { λ r. ⌜ Made (K·Value .kind) (view layout) (capacity .places) (open-model (S·Store .entries) r) ⌝ }
+        ensures lawful { λ _. ⌜ Lawful (K·Value .kind) (view layout) ⌝ }
         ensures sameness { λ _. ⌜ Sameness ⌝ }
     {
         store.forget();
@@ -58,49 +62,49 @@ impl<K: Value, S: Store> Open<K, S> {
 
     /// The handle of a value's leaf.
     pub fn constant(&mut self, word: u32) -> Result<u32, Refusal>
-        ensures { λ r. ⌜ Kept (K·Value .kind) (open-model (S·Store .entries) (now (self .entry))) (plain (Built (Constant word))) (gave r) (open-model (S·Store .entries) (now (self .exit))) ⌝ }
+        ensures { λ r. ⌜ Open-step (K·Value .kind) (S·Store .entries) (now (self .entry)) (Building (Constant word)) r (now (self .exit)) ⌝ }
     {
         self.build(Build::Constant(word))
     }
 
     /// The handle of a mark's node.
     pub fn mark(&mut self, index: u32) -> Result<u32, Refusal>
-        ensures { λ r. ⌜ Kept (K·Value .kind) (open-model (S·Store .entries) (now (self .entry))) (plain (Built (Mark index))) (gave r) (open-model (S·Store .entries) (now (self .exit))) ⌝ }
+        ensures { λ r. ⌜ Open-step (K·Value .kind) (S·Store .entries) (now (self .entry)) (Building (Mark index)) r (now (self .exit)) ⌝ }
     {
         self.build(Build::Mark(index))
     }
 
     /// The handle of the sum of two rules.
     pub fn sum(&mut self, a: u32, b: u32) -> Result<u32, Refusal>
-        ensures { λ r. ⌜ Kept (K·Value .kind) (open-model (S·Store .entries) (now (self .entry))) (plain (Built (Combine Sum a b))) (gave r) (open-model (S·Store .entries) (now (self .exit))) ⌝ }
+        ensures { λ r. ⌜ Open-step (K·Value .kind) (S·Store .entries) (now (self .entry)) (Building (Combine Sum a b)) r (now (self .exit)) ⌝ }
     {
         self.build(Build::Combine(Operation::Sum, a, b))
     }
 
     /// The handle of the first rule less the second.
     pub fn difference(&mut self, a: u32, b: u32) -> Result<u32, Refusal>
-        ensures { λ r. ⌜ Kept (K·Value .kind) (open-model (S·Store .entries) (now (self .entry))) (plain (Built (Combine Difference a b))) (gave r) (open-model (S·Store .entries) (now (self .exit))) ⌝ }
+        ensures { λ r. ⌜ Open-step (K·Value .kind) (S·Store .entries) (now (self .entry)) (Building (Combine Difference a b)) r (now (self .exit)) ⌝ }
     {
         self.build(Build::Combine(Operation::Difference, a, b))
     }
 
     /// The handle of the product of two rules.
     pub fn product(&mut self, a: u32, b: u32) -> Result<u32, Refusal>
-        ensures { λ r. ⌜ Kept (K·Value .kind) (open-model (S·Store .entries) (now (self .entry))) (plain (Built (Combine Product a b))) (gave r) (open-model (S·Store .entries) (now (self .exit))) ⌝ }
+        ensures { λ r. ⌜ Open-step (K·Value .kind) (S·Store .entries) (now (self .entry)) (Building (Combine Product a b)) r (now (self .exit)) ⌝ }
     {
         self.build(Build::Combine(Operation::Product, a, b))
     }
 
     /// The handle of a rule with a mark put to a constant, 0 or 1.
     pub fn restrict(&mut self, handle: u32, mark: u32, constant: u32) -> Result<u32, Refusal>
-        ensures { λ r. ⌜ Kept (K·Value .kind) (open-model (S·Store .entries) (now (self .entry))) (plain (Built (Restrict handle mark constant))) (gave r) (open-model (S·Store .entries) (now (self .exit))) ⌝ }
+        ensures { λ r. ⌜ Open-step (K·Value .kind) (S·Store .entries) (now (self .entry)) (Building (Restrict handle mark constant)) r (now (self .exit)) ⌝ }
     {
         self.build(Build::Restrict(handle, mark, constant))
     }
 
     // Carries out a building call.
     fn build(&mut self, call: Build) -> Result<u32, Refusal>
-        ensures { λ r. ⌜ Kept (K·Value .kind) (open-model (S·Store .entries) (now (self .entry))) (plain (Built (meant call))) (gave r) (open-model (S·Store .entries) (now (self .exit))) ⌝ }
+        ensures { λ r. ⌜ Open-step (K·Value .kind) (S·Store .entries) (now (self .entry)) (Building (meant call)) r (now (self .exit)) ⌝ }
     {
         match call {
             Build::Constant(word) => self.build_constant(word),
@@ -114,8 +118,9 @@ impl<K: Value, S: Store> Open<K, S> {
         }
     }
 
+    // A word that is no value is refused first.
     fn build_constant(&mut self, word: u32) -> Result<u32, Refusal>
-        ensures { λ r. ⌜ Kept (K·Value .kind) (open-model (S·Store .entries) (now (self .entry))) (plain (Built (Constant word))) (gave r) (open-model (S·Store .entries) (now (self .exit))) ⌝ }
+        ensures { λ r. ⌜ Open-step (K·Value .kind) (S·Store .entries) (now (self .entry)) (Building (Constant word)) r (now (self .exit)) ⌝ }
     {
         if !K::is_value(word) {
             return Err(Refusal::NotAValue);
@@ -125,8 +130,9 @@ impl<K: Value, S: Store> Open<K, S> {
         self.settle(&saved, answer)
     }
 
+    // A mark that the layout lacks is refused first.
     fn build_mark(&mut self, index: u32) -> Result<u32, Refusal>
-        ensures { λ r. ⌜ Kept (K·Value .kind) (open-model (S·Store .entries) (now (self .entry))) (plain (Built (Mark index))) (gave r) (open-model (S·Store .entries) (now (self .exit))) ⌝ }
+        ensures { λ r. ⌜ Open-step (K·Value .kind) (S·Store .entries) (now (self .entry)) (Building (Mark index)) r (now (self .exit)) ⌝ }
     {
         if index >= u32::from(self.layout.size()) {
             return Err(Refusal::NoSuchMark);
@@ -136,8 +142,9 @@ impl<K: Value, S: Store> Open<K, S> {
         self.settle(&saved, answer)
     }
 
+    // The left handle is looked at before the right.
     fn build_combined(&mut self, operation: Operation, a: u32, b: u32) -> Result<u32, Refusal>
-        ensures { λ r. ⌜ Kept (K·Value .kind) (open-model (S·Store .entries) (now (self .entry))) (plain (Built (Combine (operated operation) a b))) (gave r) (open-model (S·Store .entries) (now (self .exit))) ⌝ }
+        ensures { λ r. ⌜ Open-step (K·Value .kind) (S·Store .entries) (now (self .entry)) (Building (Combine (operated operation) a b)) r (now (self .exit)) ⌝ }
     {
         let Some(left) = self.places.live(a) else {
             return Err(Refusal::NotLive);
@@ -157,8 +164,9 @@ impl<K: Value, S: Store> Open<K, S> {
         self.settle(&saved, answer)
     }
 
+    // The mark is looked at first, then the handle, then the constant.
     fn build_restricted(&mut self, handle: u32, mark: u32, constant: u32) -> Result<u32, Refusal>
-        ensures { λ r. ⌜ Kept (K·Value .kind) (open-model (S·Store .entries) (now (self .entry))) (plain (Built (Restrict handle mark constant))) (gave r) (open-model (S·Store .entries) (now (self .exit))) ⌝ }
+        ensures { λ r. ⌜ Open-step (K·Value .kind) (S·Store .entries) (now (self .entry)) (Building (Restrict handle mark constant)) r (now (self .exit)) ⌝ }
     {
         if mark >= u32::from(self.layout.size()) {
             return Err(Refusal::NoSuchMark);

@@ -1,7 +1,6 @@
 ghost use mathlib.Core.Path.{_≡_};
 ghost use Rattle.histories.specs.Requests.{Call.look as Look, Look.grade as Grade};
-ghost use Rattle.histories.specs.Histories.{Kept};
-ghost use Rattle.tables.specs.Models.{released-model, plain, gave};
+ghost use Rattle.tables.specs.Models.{Released-step};
 use grading::grade;
 use kinds::Value;
 use layouts::Layout;
@@ -22,14 +21,14 @@ pub struct Released<K: Value, S: Store> {
 impl<K: Value, S: Store> Released<K, S> {
     /// The value that the rule of a handle gives a fruit.
     pub fn grade(&self, handle: u32, fruit: u32) -> Result<u32, Refusal>
-        ensures { λ r. ⌜ Kept (K·Value .kind) (released-model (S·Store .entries) (now (self .entry))) (plain (Look (Grade handle fruit))) (gave r) (released-model (S·Store .entries) (now (self .entry))) ⌝ }
+        ensures { λ r. ⌜ Released-step (K·Value .kind) (S·Store .entries) (now (self .entry)) (Look (Grade handle fruit)) r ⌝ }
     {
         self.value_of(handle, fruit)
     }
 
     // The checks in their order, and then the walk.
     fn value_of(&self, handle: u32, fruit: u32) -> Result<u32, Refusal>
-        ensures { λ r. ⌜ Kept (K·Value .kind) (released-model (S·Store .entries) (now (self .entry))) (plain (Look (Grade handle fruit))) (gave r) (released-model (S·Store .entries) (now (self .entry))) ⌝ }
+        ensures { λ r. ⌜ Released-step (K·Value .kind) (S·Store .entries) (now (self .entry)) (Look (Grade handle fruit)) r ⌝ }
     {
         let Some(place) = self.places.live(handle) else {
             return Err(Refusal::NotLive);

@@ -8,7 +8,7 @@ use lib.ListN.{length}
 use Rattle.diagrams.specs.Kinds.{Kind}
 use Rattle.diagrams.specs.Layouts.{Layout, Fruit}
 use Rattle.diagrams.specs.Diagrams.{Diagram, leaf, node, rule}
-use Rattle.diagrams.specs.Sizes.{among, Distinct, once, different, Part, itself, in-low, in-high}
+use Rattle.diagrams.specs.Sizes.{among, Distinct, once, different, Within, itself, in-low, in-high}
 use Rattle.diagrams.specs.Sheets.{visited}
 use Rattle.diagrams.specs.Places.{node-at, Place}
 use Rattle.diagrams.proofs.Counting.{once-within, within-once, once-distinct}
@@ -54,12 +54,12 @@ without-mem rs (e ∷ ds) d = both (among e rs) (without-mem rs ds d)
       λ q. elim (List·Memᴰ·cases-cons (q .0)) [ inl f ↦ List·Memᴰ·head f | inr t ↦ List·Memᴰ·tail (rest .1 (t, q .1)) ],
     )
 
-part-part : (x d e : Diagram) → Part x d → Part d e → Part x e
-part-part x d e p (itself r) = subst (Part x) r p
+part-part : (x d e : Diagram) → Within x d → Within d e → Within x e
+part-part x d e p (itself r) = subst (Within x) r p
 part-part x d (node l a b) p (in-low q) = in-low (part-part x d a p q)
 part-part x d (node l a b) p (in-high q) = in-high (part-part x d b p q)
 
-part-leaf : (x : Diagram) (v : ℕ) → Part x (leaf v) → x ≡ leaf v
+part-leaf : (x : Diagram) (v : ℕ) → Within x (leaf v) → x ≡ leaf v
 part-leaf x v (itself r) = r
 
 module _ (K : Kind) where
@@ -68,11 +68,11 @@ module _ (K : Kind) where
   kept [] = leaf (K .zero) ∷ leaf (K .one) ∷ []
   kept (e ∷ es) = visited e [] ++ kept es
 
-  kept-parts : (es : List Diagram) (x d : Diagram) → Part x d → List·Memᴰ d (kept es) → List·Memᴰ x (kept es)
+  kept-parts : (es : List Diagram) (x d : Diagram) → Within x d → List·Memᴰ d (kept es) → List·Memᴰ x (kept es)
   kept-parts [] x d p q =
       elim (List·Memᴰ·cases-cons q) [
-        | inl e ↦ List·Memᴰ·head (part-leaf x (K .zero) (subst (Part x) e p))
-        | inr t ↦ List·Memᴰ·tail (List·Memᴰ·head (part-leaf x (K .one) (subst (Part x) (List·Memᴰ·eq-of-singleton t) p)))
+        | inl e ↦ List·Memᴰ·head (part-leaf x (K .zero) (subst (Within x) e p))
+        | inr t ↦ List·Memᴰ·tail (List·Memᴰ·head (part-leaf x (K .one) (subst (Within x) (List·Memᴰ·eq-of-singleton t) p)))
       ]
   kept-parts (e ∷ es) x d p q =
       elim (List·Memᴰ·append-cases (visited e []) q) [
@@ -133,14 +133,14 @@ module _ {K : Kind} {L : Layout} (m : Model) (sound : Sound K L m) where
       (handles (once es) (once-distinct es) (λ d q. used d (once-within es d q)))
 
   -- The parts of a diagram whose handle is reached are reached.
-  reached-parts : (x d : Diagram) (h : ℕ) → Part x d → Stands-for m d h → Reached m h → (g : ℕ) × Stands-for m x g × Reached m g
+  reached-parts : (x d : Diagram) (h : ℕ) → Within x d → Stands-for m d h → Reached m h → (g : ℕ) × Stands-for m x g × Reached m g
   reached-parts x d h (itself r) p reach = (h, subst (λ y. Stands-for m y h) (sym r) p, reach)
   reached-parts x (node l a b) h (in-low q) p reach = reached-parts x a (p .0) q (p .3) (to-low reach (p .2))
   reached-parts x (node l a b) h (in-high q) p reach = reached-parts x b (p .1) q (p .4) (to-high reach (p .2))
 
   -- The children of a handle stand for parts of its diagram.
   child-stands : (d : Diagram) (h l x y : ℕ) → Stands-for m d h → content m h ≡ node-at l x y
-      → ((a : Diagram) × Stands-for m a x × Part a d) × ((b : Diagram) × Stands-for m b y × Part b d)
+      → ((a : Diagram) × Stands-for m a x × Within a d) × ((b : Diagram) × Stands-for m b y × Within b d)
   child-stands (leaf v) h l x y p e = absurd (let z : _≡_ {A = ℕ} 0 1 = cc in omega arith)
   child-stands (node k a b) h l x y p e =
       let low : p .0 ≡ x = cc (p .2, e) in
