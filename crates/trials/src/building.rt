@@ -7,6 +7,7 @@ use kinds::Points;
 use kinds::PointsValue;
 use kinds::YesNo;
 use kinds::YesNoValue;
+use layouts::Layout;
 use std::test::*;
 use stores::Entry;
 use stores::last::Last;
@@ -102,11 +103,38 @@ fn a_davio_sum_of_two_marks_has_size_2() -> Result<(), Fail> {
     check_eq(refused(four.sum(first, second)), 25)
 }
 
-// "Or" of two marks: one node besides the second mark's in Shannon (size 2), two in positive Davio (size 3).
+// Builds a + b and a·b of two yes/no marks in a table of so many places, then a + b + a·b: the number of its refusal, 0 where it is given.
+fn either_in(layout: Layout, number: u32) -> Result<u8, Fail> {
+    let mut table = Open::<YesNo, Own>::make(layout, places(number)?, Own::new());
+    let first = given(table.mark(0))?;
+    let second = given(table.mark(1))?;
+    let sum = given(table.sum(first, second))?;
+    let both = given(table.product(first, second))?;
+    Ok(refused(table.sum(sum, both)))
+}
+
+// "Or" of two marks has size 2 in Shannon: seven places are in use before, and one node comes to the second mark's.
 #[test]
-fn either_of_two_marks() -> Result<(), Fail> {
+fn either_of_two_shannon_marks_has_size_2() -> Result<(), Fail> {
     let layout = laid_out(2)?;
-    let mut table = Open::<YesNo, Own>::make(layout, places(8)?, Own::new());
+    check_eq(either_in(layout, 7)?, 25)?;
+    check_eq(either_in(layout, 8)?, 0)
+}
+
+// In positive Davio it has size 3: six places are in use before, and two nodes come to the second mark's.
+#[test]
+fn either_of_two_davio_marks_has_size_3() -> Result<(), Fail> {
+    let mut layout = laid_out(2)?;
+    check_eq(refused(layout.set_type(0, 1)), 0)?;
+    check_eq(refused(layout.set_type(1, 1)), 0)?;
+    check_eq(either_in(layout, 6)?, 25)?;
+    check_eq(either_in(layout, 7)?, 25)?;
+    check_eq(either_in(layout, 8)?, 0)
+}
+
+#[test]
+fn either_of_two_marks_grades_as_or() -> Result<(), Fail> {
+    let mut table = Open::<YesNo, Last>::make(laid_out(2)?, places(8)?, Last::new());
     let first = given(table.mark(0))?;
     let second = given(table.mark(1))?;
     let sum = given(table.sum(first, second))?;
