@@ -1,5 +1,7 @@
 // The theorems on diagrams, calls, layouts and sheets. Each function carries one theorem, as what it ensures, and answers 0: it is there to
 // be proved, not to be called.
+#![tactic(auto)]
+
 ghost use Rattle.diagrams.specs.Theorems.{Canonical, Answered, Only, Composes, Deeper, AllTied, Listed, LayoutsStayValid};
 ghost use Rattle.diagrams.specs.Written.{Returns, Accepts, Faults, Faithful, Ordered, LowFirst, Measured, Spelled};
 

@@ -1,4 +1,6 @@
 // The value of a handle's rule for a fruit.
+#![tactic(auto)]
+
 mod frames;
 mod turn;
 mod walk;

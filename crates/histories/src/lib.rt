@@ -1,5 +1,7 @@
 // The theorems on histories of tables. Each function carries one theorem, as what it ensures, and answers 0: it is there to be proved, not
 // to be called.
+#![tactic(auto)]
+
 ghost use Rattle.histories.specs.Histories.{OneOutcome, OneOutcomeAfter, ReachComputed, Sameness};
 
 // Of any two tables of one layout and one kind, whatever was asked of them and whatever their capacities and stores: every call was answered

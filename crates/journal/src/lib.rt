@@ -1,4 +1,6 @@
 // The journal of a lane: turns one line of it into a command.
+#![tactic(auto)]
+
 mod names;
 mod reading;
 

@@ -1,4 +1,6 @@
 // The commands of a journal, read from the words of a line.
+#![tactic(auto)]
+
 pub mod asking;
 pub mod command;
 pub mod operands;

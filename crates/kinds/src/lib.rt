@@ -1,4 +1,6 @@
 // The kinds of value that a table can have.
+#![tactic(auto)]
+
 pub mod points;
 pub mod value;
 pub mod yes_no;

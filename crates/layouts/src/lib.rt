@@ -1,4 +1,6 @@
 // Layouts, fruits and capacities: what a table is made from.
+#![tactic(auto)]
+
 pub mod capacity;
 pub mod form;
 pub mod fruit;

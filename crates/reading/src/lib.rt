@@ -1,4 +1,6 @@
 // Reading a sheet into the places of a table.
+#![tactic(auto)]
+
 pub mod admit;
 pub mod fill;
 pub mod read;

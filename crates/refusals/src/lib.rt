@@ -1,4 +1,6 @@
 // Why a call is refused, and what a fault of reading tells.
+#![tactic(auto)]
+
 pub mod fault;
 pub mod layer;
 pub mod refusal;

@@ -1,4 +1,6 @@
 // Replays a lane's journal on a rule table, and prints one line for each call.
+#![tactic(auto)]
+
 mod failure;
 mod lane;
 mod lists;

@@ -1,4 +1,6 @@
 // Sheets as bytes: records put into an output, and bytes checked to be a sheet.
+#![tactic(auto)]
+
 mod check;
 mod frame;
 mod head;

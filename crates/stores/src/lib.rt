@@ -1,4 +1,6 @@
 // Stores of computed results: what may be asked of one, and three that serve, in `last`, `own` and `lent`.
+#![tactic(auto)]
+
 ghost use Rattle.std.specs.Prelude.{◌≡◌};
 ghost use Rattle.histories.specs.Stores.{Entries, Offered, Forgotten, same_key};
 ghost use Rattle.stores.specs.Keys.{key_of};

@@ -1,5 +1,7 @@
 // Rule tables: the open table, on which rules are built, and the released table, by which fruit is graded. Every public call takes one step of the
 // specification of tables, whatever it is given.
+#![tactic(auto)]
+
 mod call;
 pub mod open;
 pub mod released;

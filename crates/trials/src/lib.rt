@@ -1,4 +1,6 @@
 // Trials: examples of what the engine answers, run against its public calls.
+#![tactic(auto)]
+
 #[cfg(test)]
 mod building;
 #[cfg(test)]
