@@ -20,5 +20,5 @@ returns g c = record {
   first = c.parts-la.ensures;
   second = c.parts-lb.ensures;
   split = c.in-Split.ensures;
-  missed = λ x e. c.in-default.ensures x (c.ask.ensures ∙ ap (g.S.Store.entries c.args.store.now) c.key.ensures ∙ e);
+  missed = λ x e. c.in_default.ensures x (c.ask.ensures ∙ ap (g.S.Store.entries c.args.store.now) c.key.ensures ∙ e);
 }

@@ -6,10 +6,10 @@ use Rattle.places.proofs.Holding.{seen_one}
 use Rattle.building.proofs.Restricting.{leaf_restricted, deeper_restricted, here_starts, hit_restricted}
 use Rattle.building.proofs.restrict.begin.Goals as goal
 
-pub returns-in-default : goal.returns-in-default
-returns-in-default g c =
+pub returns-in_default : goal.returns-in_default
+returns-in_default g c =
     leaf_restricted _ _ _ _ _ _ _ c.requires.mark c.requires.constant c.requires.used
-    (λ l x y e. c.in-default.not-Node l x y (seen_one c.content.result (Node l x y) (c.content.ensures ∙ e)))
+    (λ l x y e. c.in_default.not-Node l x y (seen_one c.content.result (Node l x y) (c.content.ensures ∙ e)))
 
 pub returns-then-level-target : goal.returns-then-level-target
 returns-then-level-target g c =
@@ -26,4 +26,4 @@ returns-in-Some g c =
     let found = c.in-Some.ensures in
     hit_restricted _ _ _ _ _ _ _ c.requires.mark c.requires.constant
     (subst (λ (l : ℕ). Under c.args.places.now l c.in-Some.answer) (ap depth c.in-Node.ensures) found.1)
-    (ap (g.S.Store.entries c.args.store.now) (sym c.stored-under.ensures) ∙ sym c.ask.ensures ∙ found.0)
+    (ap (g.S.Store.entries c.args.store.now) (sym c.stored_under.ensures) ∙ sym c.ask.ensures ∙ found.0)

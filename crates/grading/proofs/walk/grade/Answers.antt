@@ -10,11 +10,11 @@ use Rattle.grading.proofs.Adding.{began, went, ended}
 use Rattle.grading.proofs.walk.grade.Given.{Over}
 use Rattle.grading.proofs.walk.grade.Goals as goal
 
-lawful : (g : Over) (y : Layout) → Lawful g.row.K-Value.kind (view y)
-lawful g y = record { laws = g.row.K-Value.laws; valid = layout_valid y }
+lawful : (g : Over) (y : Layout) → Lawful g.K.Value.kind (view y)
+lawful g y = record { laws = g.K.Value.laws; valid = layout_valid y }
 
 pub loop-place-init : goal.loop-place-init
-loop-place-init g c = began _ _ (lawful g c.args.layout.now) _ _ _ _ _ c.begin-frames.ensures c.zero-word-total.ensures
+loop-place-init g c = began _ _ (lawful g c.args.layout.now) _ _ _ _ _ c.begin-frames.ensures c.zero_word-total.ensures
 
 pub visit-requires : goal.visit-requires
 visit-requires g c = (subst (Stacked c.args.places.now) c.in-Some.ensures c.loop-place.invariant.stacked).0
@@ -31,4 +31,4 @@ loop-place-preserved g c =
     c.sum-total.ensures c.loop-place.invariant
 
 pub returns : goal.returns
-returns g c = ended _ _ (lawful g c.args.layout.now) _ _ _ _ _ c.in-default.ensures.0 c.loop-place.invariant
+returns g c = ended _ _ (lawful g c.args.layout.now) _ _ _ _ _ c.in_default.ensures.0 c.loop-place.invariant

@@ -14,10 +14,10 @@ chosen_opened L fruit l x y m k b c here type mark marked =
 
 pub returns-in-Node : goal.returns-in-Node
 returns-in-Node g c = record {
-  gives = c.zero-word.ensures ∙ ap (worth g.row.K-Value.kind) c.in-Node.ensures;
+  gives = c.zero_word.ensures ∙ ap (worth g.K.Value.kind) c.in-Node.ensures;
   opens =
       c.open.ensures
       ∙ ap (λ (hs : List ℕ). hs ++ pending c.args.frames.now)
       (c.of-turn.ensures _ _
-      ∙ chosen_opened (view c.args.layout.now) c.args.fruit _ _ _ _ _ _ _ c.in-Node.ensures c.form.ensures c.mark.ensures c.has-mark.ensures);
+      ∙ chosen_opened (view c.args.layout.now) c.args.fruit _ _ _ _ _ _ _ c.in-Node.ensures c.form.ensures c.mark.ensures c.has_mark.ensures);
 }

@@ -4,5 +4,5 @@ use Rattle.journal_text.specs.declared.scan.Class.TheVariants.{Not}
 use Rattle.journal_text.specs.Scans.{within}
 use Rattle.journal.proofs.reading.parse.Goals as goal
 
-pub split-at-requires : goal.split-at-requires
-split-at-requires c = omega (arith, c.run.ensures, prefix_len-le-length (within (Not 35)) c.args.line.now)
+pub split_at-requires : goal.split_at-requires
+split_at-requires c = omega (arith, c.run.ensures, prefix_len-le-length (within (Not 35)) c.args.line.now)

@@ -9,5 +9,5 @@ use Rattle.journal_words.proofs.asking.begin.Goals as goal
 pub returns : goal.returns
 unfolding begun
 returns c =
-    c.ok-or.ensures.value
+    c.ok_or.ensures.value
     ∙ ap (λ o. ok_or o UnknownCommand) (c.named.ensures ∙ same_row verbs c.args.word.now c.text.result.now refl c.text.ensures)

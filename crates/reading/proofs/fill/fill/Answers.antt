@@ -18,13 +18,13 @@ place-requires c =
     (subst (Placeable c.loop-i.places (collected c.loop-i.order)) (sym (c.item.ensures seen ready.held inside))
     (turn_placeable K L _ _ seen ready _ _ _ c.loop-i.i inside (c.loop-i.invariant K L seen ready c.requires.4)))
 
-pub returns-in-default : goal.returns-in-default
-returns-in-default c = record {
+pub returns-in_default : goal.returns-in_default
+returns-in_default c = record {
   filled = λ K L seen ready counted.
       let inside : c.loop-i.i < length seen = omega arith in
       let content = ap₂ content_of c.places.ensures (c.item.ensures seen ready.held inside) in
       turn_crowded K L _ _ seen ready _ _ _ c.loop-i.i inside (c.loop-i.invariant K L seen ready counted) c.place.new.places
-      (subst (Refused c.loop-i.places c.place.new.places) content c.in-default.ensures);
+      (subst (Refused c.loop-i.places c.place.new.places) content c.in_default.ensures);
   inside = c.loop-i-test.true;
 }
 

@@ -10,7 +10,7 @@ use Rattle.sheets.proofs.scan.scan.Goals as goal
 pub loop-next-init : goal.loop-next-init
 loop-next-init g c = (
   λ L suits begun.
-      subst (λ n. At g.row.V-Value.kind L c.args.expected.limit c.args.bytes.now n 0 c.args.list.now) (sym (ap length suits.head_is))
+      subst (λ n. At g.V.Value.kind L c.args.expected.limit c.args.bytes.now n 0 c.args.list.now) (sym (ap length suits.head_is))
       (start suits.lawful suits.small c.args.list.now begun),
   refl,
 )
@@ -21,22 +21,22 @@ step-requires g c = record {
   room = omega (arith, c.requires.room, c.loop-next.auto.list);
 }
 
-pub returns-in-err-next : goal.returns-in-err-next
-returns-in-err-next g c =
+pub returns-in_err-next : goal.returns-in_err-next
+returns-in_err-next g c =
     let q = err_from_is_err_and c.from-residual.result c.from-residual.ensures.1 in
     record {
-      reads = λ L suits begun. rw (q.1, q.2) (c.in-err-next.ensures.reads L suits (c.loop-next.invariant.0 L suits begun));
-      past = c.in-err-next.ensures.past ∙ c.loop-next.invariant.1;
+      reads = λ L suits begun. rw (q.1, q.2) (c.in_err-next.ensures.reads L suits (c.loop-next.invariant.0 L suits begun));
+      past = c.in_err-next.ensures.past ∙ c.loop-next.invariant.1;
     }
 
 -- One more record.
-after : (g : given.Over) (c : goal.In-Some g) (L : Layout) → Suits g.row.V-Value.kind L c.args.expected.head.now c.args.expected.types.now c.args.expected.limit
-    → Begun g.row.V-Value.kind L c.args.bytes.now
+after : (g : given.Over) (c : goal.In-Some g) (L : Layout) → Suits g.V.Value.kind L c.args.expected.head.now c.args.expected.types.now c.args.expected.limit
+    → Begun g.V.Value.kind L c.args.bytes.now
     → (c.in-Some.next.count ≡ c.loop-next.reached.count + 1)
-    × At g.row.V-Value.kind L c.args.expected.limit c.args.bytes.now c.in-Some.next.place c.in-Some.next.count c.step.new.list
+    × At g.V.Value.kind L c.args.expected.limit c.args.bytes.now c.in-Some.next.place c.in-Some.next.count c.step.new.list
 after g c L suits begun =
-    subst (λ o. Stepped g.row.V-Value.kind L c.args.expected.limit c.args.bytes.now c.loop-next.reached.place c.loop-next.reached.count c.step.new.list (Ok o))
-    c.in-Some.is (c.in-ok-next.ensures.reads L suits (c.loop-next.invariant.0 L suits begun))
+    subst (λ o. Stepped g.V.Value.kind L c.args.expected.limit c.args.bytes.now c.loop-next.reached.place c.loop-next.reached.count c.step.new.list (Ok o))
+    c.in-Some.is (c.in_ok-next.ensures.reads L suits (c.loop-next.invariant.0 L suits begun))
 
 pub loop-next-smaller : goal.loop-next-smaller
 loop-next-smaller g c =
@@ -44,12 +44,12 @@ loop-next-smaller g c =
     omega (arith, a.0, a.1.fits, a.1.counted)
 
 pub loop-next-preserved : goal.loop-next-preserved
-loop-next-preserved g c = (λ L suits begun. (after g c L suits begun).1, c.in-ok-next.ensures.past ∙ c.loop-next.invariant.1)
+loop-next-preserved g c = (λ L suits begun. (after g c L suits begun).1, c.in_ok-next.ensures.past ∙ c.loop-next.invariant.1)
 
 pub returns : goal.returns
 returns g c = record {
   reads = λ L suits begun.
-      subst (λ o. Stepped g.row.V-Value.kind L c.args.expected.limit c.args.bytes.now c.loop-next.reached.place c.loop-next.reached.count c.step.new.list (Ok o))
-      c.in-default.is (c.in-ok-next.ensures.reads L suits (c.loop-next.invariant.0 L suits begun));
-  past = c.in-ok-next.ensures.past ∙ c.loop-next.invariant.1;
+      subst (λ o. Stepped g.V.Value.kind L c.args.expected.limit c.args.bytes.now c.loop-next.reached.place c.loop-next.reached.count c.step.new.list (Ok o))
+      c.in_default.is (c.in_ok-next.ensures.reads L suits (c.loop-next.invariant.0 L suits begun));
+  past = c.in_ok-next.ensures.past ∙ c.loop-next.invariant.1;
 }

@@ -6,8 +6,8 @@ use Rattle.sheets.proofs.scan.scan.Given as goal
 
 abbrev pub invariant-loop-next : goal.invariant-loop-next
 invariant-loop-next g l =
-    ((L : Layout) → Suits g.row.V-Value.kind L l.expected.head.now l.expected.types.now l.expected.limit → Begun g.row.V-Value.kind L l.bytes
-    → At g.row.V-Value.kind L l.expected.limit l.bytes l.reached.place l.reached.count l.list)
+    ((L : Layout) → Suits g.V.Value.kind L l.expected.head.now l.expected.types.now l.expected.limit → Begun g.V.Value.kind L l.bytes
+    → At g.V.Value.kind L l.expected.limit l.bytes l.reached.place l.reached.count l.list)
     × (drop l.expected.limit l.list ≡ drop l.expected.limit l.initial.list)
 
 abbrev pub decreases-loop-next : goal.decreases-loop-next

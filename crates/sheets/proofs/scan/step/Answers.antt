@@ -21,61 +21,61 @@ next-requires g c =
       inside = inside suits.lawful suits.small at c.requires.room;
     }
 
-pub returns-in-err-next : goal.returns-in-err-next
-returns-in-err-next g c =
+pub returns-in_err-next : goal.returns-in_err-next
+returns-in_err-next g c =
     let q = err_from_is_err_and c.from-residual.result c.from-residual.ensures.1 in
     record {
       reads = λ L suits at.
           let seen-there = listed suits.lawful suits.small at c.requires.room in
           rw (q.1, q.2)
           (breaks suits.lawful suits.small at c.requires.room
-          c.in-err-next.field-0.0 (c.in-err-next.ensures L at.seen suits.types_are seen-there));
+          c.in_err-next.field-0.0 (c.in_err-next.ensures L at.seen suits.types_are seen-there));
       past = refl;
     }
 
 pub returns-in-End : goal.returns-in-End
 returns-in-End g c = record {
   reads = λ L suits at.
-      let all = bytes_small c.args.bytes.now (λ i. Fits-lt-pow {w = w8} (c.type-inv.bytes i)) in
+      let all = bytes_small c.args.bytes.now (λ i. Fits-lt-pow {w = w8} (c.type_inv.bytes i)) in
       let seen-there = listed suits.lawful suits.small at c.requires.room in
       ends suits.lawful suits.small at c.requires.room all
-      (c.in-ok-next.ensures L at.seen suits.types_are seen-there ∙ ap (stands_for at.seen) c.in-End.is);
+      (c.in_ok-next.ensures L at.seen suits.types_are seen-there ∙ ap (stands_for at.seen) c.in-End.is);
   past = refl;
 }
 
-pub overflow-cast-list : goal.overflow-cast-list
-overflow-cast-list g c =
+pub overflow_cast-list : goal.overflow_cast-list
+overflow_cast-list g c =
     let suits = c.requires.reads.1 in
     Fits-below {n = 600000} tt (near suits.lawful suits.small c.requires.reads.2 c.requires.room)
 
 -- The step onward over a leaf or node.
 onward : (g : given.Over) (c : goal.In-ok-next g) (L : Layout)
-    → Suits g.row.V-Value.kind L c.args.expected.head.now c.args.expected.types.now c.args.expected.limit
-    → At g.row.V-Value.kind L c.args.expected.limit c.args.bytes.now c.args.reached.place c.args.reached.count c.args.list.now
-    → (size : ℕ) → Sized c.in-ok-next.field-0 size
+    → Suits g.V.Value.kind L c.args.expected.head.now c.args.expected.types.now c.args.expected.limit
+    → At g.V.Value.kind L c.args.expected.limit c.args.bytes.now c.args.reached.place c.args.reached.count c.args.list.now
+    → (size : ℕ) → Sized c.in_ok-next.field-0 size
     → (c.args.reached.count < c.args.expected.limit)
-    × At g.row.V-Value.kind L c.args.expected.limit c.args.bytes.now (c.args.reached.place + size) (c.args.reached.count + 1) (set c.args.list.now c.args.reached.count c.args.reached.place)
+    × At g.V.Value.kind L c.args.expected.limit c.args.bytes.now (c.args.reached.place + size) (c.args.reached.count + 1) (set c.args.list.now c.args.reached.count c.args.reached.place)
 onward g c L suits at size sized =
-    let all = bytes_small c.args.bytes.now (λ i. Fits-lt-pow {w = w8} (c.type-inv.bytes i)) in
+    let all = bytes_small c.args.bytes.now (λ i. Fits-lt-pow {w = w8} (c.type_inv.bytes i)) in
     let seen-there = listed suits.lawful suits.small at c.requires.room in
     item_onto suits.lawful suits.small at c.requires.room all
-    c.in-ok-next.field-0 size sized (c.in-ok-next.ensures L at.seen suits.types_are seen-there)
+    c.in_ok-next.field-0 size sized (c.in_ok-next.ensures L at.seen suits.types_are seen-there)
 
 pub bounds-list-reached : goal.bounds-list-reached
 bounds-list-reached g c =
-    let sized : Sized c.in-ok-next.field-0 c.match-branch-2.size =
+    let sized : Sized c.in_ok-next.field-0 c.match-branch-2.size =
     elim c.match-branch-2.branch [ in-Leaf w ↦ rw w.in-Leaf.is w.size-is | in-Node w ↦ rw w.in-Node.is w.size-is ] in
     omega (arith, (onward g (goal.at.bounds-list-reached g c).In-ok-next c.requires.reads.0 c.requires.reads.1 c.requires.reads.2 c.match-branch-2.size sized).0, c.requires.room)
 
-pub overflow-add-result : goal.overflow-add-result
-overflow-add-result g c =
+pub overflow_add-result : goal.overflow_add-result
+overflow_add-result g c =
     let suits = c.requires.reads.1 in
     let n = near suits.lawful suits.small c.requires.reads.2 c.requires.room in
     elim c.match-branch-2.branch [ in-Leaf w ↦ Fits-below {n = 600009} tt (omega (arith, n, w.size-is)) | in-Node w ↦ Fits-below {n = 600009} tt (omega (arith, n, w.size-is)) ]
 
 pub returns : goal.returns
 returns g c =
-    let sized : Sized c.in-ok-next.field-0 c.match-branch-2.size =
+    let sized : Sized c.in_ok-next.field-0 c.match-branch-2.size =
     elim c.match-branch-2.branch [ in-Leaf w ↦ rw w.in-Leaf.is w.size-is | in-Node w ↦ rw w.in-Node.is w.size-is ] in
     record {
       reads = λ L suits at. (refl, (onward g (goal.at.returns g c).In-ok-next L suits at c.match-branch-2.size sized).1);

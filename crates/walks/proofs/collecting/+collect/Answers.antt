@@ -13,7 +13,7 @@ use Rattle.walks.proofs.Lists.{order_few}
 use Rattle.places.proofs.Drawing.{used_stands}
 use Rattle.walks.proofs.Walking.{ready_room, plain_ready, node_ready, walked_already, walked_plain, walked_node, left, still_begun}
 use Rattle.walks.proofs.collecting.+collect.Goals as goal
-use Rattle.walks.proofs.collecting.+collect.Goals.{in-Node, in-default}
+use Rattle.walks.proofs.collecting.+collect.Goals.{in-Node, in_default}
 
 -- What was read and is no node holds none.
 plain : (t : Places) (h : ℕ) (s : Content) → seen_content s ≡ holds t h → ((l x y : ℕ) → s ≡ Node l x y → ⊥)
@@ -50,14 +50,14 @@ push-requires t c =
           let ready = node_ready p h marks _ zero n.level n.low n.high (sym n.ensures) _ _ _ _
           w.collect.ensures w.collect-in-Node.ensures d.0 b.0 d.1 b.1 in
           omega (arith, ready_room p ready.2, ap (λ (o : Order). length (collected o)) w.order-is)
-      | in-default w ↦
-          let none = plain p h c.content.result c.content.ensures w.in-default.not-Node in
+      | in_default w ↦
+          let none = plain p h c.content.result c.content.ensures w.in_default.not-Node in
           let ready = plain_ready p h marks _ zero none d.0 b.0 d.1 b.1 in
           omega (arith, ready_room p ready, ap (λ (o : Order). length (collected o)) w.order-is)
     ]
 
-pub overflow-cast-marks : goal.overflow-cast-marks
-overflow-cast-marks t c = omega (arith, c.len.ensures, order_few c.push.new.self)
+pub overflow_cast-marks : goal.overflow_cast-marks
+overflow_cast-marks t c = omega (arith, c.len.ensures, order_few c.push.new.self)
 
 pub returns : goal.returns
 returns t c =
@@ -72,7 +72,7 @@ returns t c =
           let walked = walked_node p h marks _ zero n.level n.low n.high (sym n.ensures) _ _ _ _
           w.collect.ensures w.collect-in-Node.ensures (omega arith) below in
           left p walked w.marks-is (ap collected w.order-is) c.push.ensures c.len.ensures
-      | in-default w ↦
-          let none = plain p h c.content.result c.content.ensures w.in-default.not-Node in
+      | in_default w ↦
+          let none = plain p h c.content.result c.content.ensures w.in_default.not-Node in
           left p (walked_plain p h marks _ zero none (omega arith) below) w.marks-is (ap collected w.order-is) c.push.ensures c.len.ensures
     ]

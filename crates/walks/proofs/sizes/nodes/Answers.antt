@@ -8,14 +8,14 @@ use Rattle.walks.specs.Walks.{is_node, node_count}
 use Rattle.walks.proofs.Lists.{order_few}
 use Rattle.walks.proofs.NodeCounts.{count_more, no_node}
 use Rattle.walks.proofs.sizes.nodes.Goals as goal
-use Rattle.walks.proofs.sizes.nodes.Goals.{in-Node, in-default}
+use Rattle.walks.proofs.sizes.nodes.Goals.{in-Node, in_default}
 
 -- What a content that was read adds to the count.
 abbrev one : Content → ℕ
 one s = cond (is_node (seen_content s)) 1 0
 
-pub overflow-add-count : goal.overflow-add-count
-overflow-add-count c = omega (arith, order_few c.args.order.now, ap length c.places-place-items.ensures)
+pub overflow_add-count : goal.overflow_add-count
+overflow_add-count c = omega (arith, order_few c.args.order.now, ap length c.places-place-items.ensures)
 
 pub loop-place-preserved : goal.loop-place-preserved
 loop-place-preserved c =
@@ -28,8 +28,8 @@ loop-place-preserved c =
     let more = count_more at hs i c.loop-place.count _ c.content.result lt c.loop-place.invariant.0 read in
     elim c.match-content.branch [
       | in-Node w ↦ (omega (arith, more, ap one w.in-Node.is, w.count-is), omega (arith, w.count-is))
-      | in-default w ↦
-          let none : one c.content.result ≡ 0 = ap {B = ℕ} (λ (b : Bool). cond b 1 0) (no_node c.content.result w.in-default.not-Node) in
+      | in_default w ↦
+          let none : one c.content.result ≡ 0 = ap {B = ℕ} (λ (b : Bool). cond b 1 0) (no_node c.content.result w.in_default.not-Node) in
           (omega (arith, more, none, w.count-is), omega (arith, w.count-is))
     ]
 

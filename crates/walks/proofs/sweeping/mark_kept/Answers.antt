@@ -3,7 +3,7 @@ use Rattle.walks.specs.Orders.{collected}
 use Rattle.walks.proofs.Lists.{cleared_zero, cleared_past}
 use Rattle.walks.proofs.Rooting.{Rooted, root_used, rooted_none, rooted_skip, rooted_root, rooted_all}
 use Rattle.walks.proofs.sweeping.mark_kept.Goals as goal
-use Rattle.walks.proofs.sweeping.mark_kept.Goals.{then-is-root, else-is-root}
+use Rattle.walks.proofs.sweeping.mark_kept.Goals.{then-is_root, else-is_root}
 
 pub loop-place-init : goal.loop-place-init
 loop-place-init c =
@@ -16,7 +16,7 @@ pub collect-requires : goal.collect-requires
 collect-requires c =
     let p = c.loop-place.invariant.0 in
     record {
-      used = root_used c.args.places.now c.loop-place.place (sym c.if-is-root.ensures);
+      used = root_used c.args.places.now c.loop-place.place (sym c.if-is_root.ensures);
       room = omega arith;
       begun = (p.seen, p.collected);
     }
@@ -28,14 +28,14 @@ loop-place-preserved c =
     let marks = c.loop-place.marks in
     let order = collected c.loop-place.order in
     let p = c.loop-place.invariant in
-    elim c.if-is-root.branch [
-      | then-is-root w ↦ (
+    elim c.if-is_root.branch [
+      | then-is_root w ↦ (
         subst₂ (Rooted t (i + 1)) (sym w.marks-is) (sym (ap collected w.order-is))
-            (rooted_root t i marks order p.0 w.collect.new.marks (collected w.collect.new.order) (sym w.if-is-root.ensures) w.collect.ensures),
+            (rooted_root t i marks order p.0 w.collect.new.marks (collected w.collect.new.order) (sym w.if-is_root.ensures) w.collect.ensures),
         ap (drop t.capacity) w.marks-is ∙ w.collect.ensures.past ∙ p.1,
       )
-      | else-is-root w ↦ (
-        subst₂ (Rooted t (i + 1)) (sym w.marks-is) (sym (ap collected w.order-is)) (rooted_skip t i marks order p.0 (sym w.if-is-root.ensures)),
+      | else-is_root w ↦ (
+        subst₂ (Rooted t (i + 1)) (sym w.marks-is) (sym (ap collected w.order-is)) (rooted_skip t i marks order p.0 (sym w.if-is_root.ensures)),
         ap (drop t.capacity) w.marks-is ∙ p.1,
       )
     ]

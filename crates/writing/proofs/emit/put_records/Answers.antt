@@ -7,8 +7,8 @@ use Rattle.writing.specs.Records.{entries}
 use Rattle.writing.proofs.Recording.{entries_more, entries_room, ready_at, entries_same}
 use Rattle.writing.proofs.emit.put_records.Goals as goal
 
-pub put-record-at-requires : goal.put-record-at-requires
-put-record-at-requires c =
+pub put_record-at-requires : goal.put_record-at-requires
+put_record-at-requires c =
     let t = c.args.places.now in
     let marks = c.args.marks.now in
     let order = collected c.args.order.now in
@@ -35,8 +35,8 @@ loop-place-preserved c =
     let done = entries (holds t) marks (take i order) in
     let more = entries_more (holds t) marks order i _ lt (ap (λ (l : List ℕ). get_or l i 0) items) in
     let inv = c.loop-place.invariant in (
-      sets_then out _ start at done _ inv.0 inv.1 _ c.put-record-at.ensures.bytes ∙ ap (sets out start) more,
-      place_then out _ start at done _ inv.0 inv.1 _ c.put-record-at.ensures.after ∙ ap (λ (r : List ℕ). start + length r) more,
+      sets_then out _ start at done _ inv.0 inv.1 _ c.put_record-at.ensures.bytes ∙ ap (sets out start) more,
+      place_then out _ start at done _ inv.0 inv.1 _ c.put_record-at.ensures.after ∙ ap (λ (r : List ℕ). start + length r) more,
     )
 
 pub returns : goal.returns

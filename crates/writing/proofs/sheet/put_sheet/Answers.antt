@@ -11,14 +11,14 @@ use Rattle.writing.specs.Records.{body}
 use Rattle.writing.proofs.Measuring.{parts_length, head_few}
 use Rattle.writing.proofs.sheet.put_sheet.Goals as goal
 
-pub put-head-after-head-requires : goal.put-head-after-head-requires
-put-head-after-head-requires c =
+pub put_head-after_head-requires : goal.put_head-after_head-requires
+put_head-after_head-requires c =
     let head = c.args.head.now in
     let same = ap length c.bytes.ensures in
     record { small = omega (arith, same, head_few head); room = omega (arith, same, parts_length (head_bytes head) c.requires.0, c.requires.2) }
 
-pub put-records-after-records-requires : goal.put-records-after-records-requires
-put-records-after-records-requires c = (
+pub put_records-after_records-requires : goal.put_records-after_records-requires
+put_records-after_records-requires c = (
   c.requires.0,
   c.requires.1,
   omega (
@@ -26,36 +26,36 @@ put-records-after-records-requires c = (
     ap length c.bytes.ensures,
     parts_length (head_bytes c.args.head.now) c.requires.0,
     c.requires.2,
-    c.put-head-after-head.ensures.after,
-    c.put-head-after-head.auto.out,
+    c.put_head-after_head.ensures.after,
+    c.put_head-after_head.auto.out,
   ),
 )
 
-pub overflow-cast-len : goal.overflow-cast-len
-overflow-cast-len c = omega (arith, c.len.ensures, order_few c.args.order.now)
+pub overflow_cast-len : goal.overflow_cast-len
+overflow_cast-len c = omega (arith, c.len.ensures, order_few c.args.order.now)
 
-pub put-end-requires : goal.put-end-requires
-put-end-requires c =
+pub put_end-requires : goal.put_end-requires
+put_end-requires c =
     omega (
       arith,
       ap length c.bytes.ensures,
       parts_length (head_bytes c.args.head.now) c.requires.0,
       c.requires.2,
-      c.put-head-after-head.ensures.after,
-      c.put-head-after-head.auto.out,
-      c.put-records-after-records.ensures.after c.requires.0 c.requires.1,
-      c.put-records-after-records.auto.out,
+      c.put_head-after_head.ensures.after,
+      c.put_head-after_head.auto.out,
+      c.put_records-after_records.ensures.after c.requires.0 c.requires.1,
+      c.put_records-after_records.auto.out,
     )
 
 pub returns : goal.returns
 returns c = λ d w.
     let out = c.args.out.now in
-    let first = c.put-head-after-head.ensures in
-    let next = c.put-records-after-records.ensures in
+    let first = c.put_head-after_head.ensures in
+    let next = c.put_records-after_records.ensures in
     let count : c.len.result ≡ length (visited d []) = c.len.ensures ∙ stand_length (holds c.args.places.now) (collected c.args.order.now) (visited d []) w.stand in
     let head : List ℕ = record_of 1 c.bytes.result.now in
-    sets_then out c.put-records-after-records.new.out 0 c.put-records-after-records.result (head ++ body d) (record_of 4 (two c.len.result))
-    (sets_then out c.put-head-after-head.new.out 0 c.put-head-after-head.result head (body d) first.bytes first.after c.put-records-after-records.new.out (next.bytes d w))
-    (place_then out c.put-head-after-head.new.out 0 c.put-head-after-head.result head (body d) first.bytes first.after c.put-records-after-records.result (next.after d w))
-    c.put-end.new.out c.put-end.ensures.bytes
+    sets_then out c.put_records-after_records.new.out 0 c.put_records-after_records.result (head ++ body d) (record_of 4 (two c.len.result))
+    (sets_then out c.put_head-after_head.new.out 0 c.put_head-after_head.result head (body d) first.bytes first.after c.put_records-after_records.new.out (next.bytes d w))
+    (place_then out c.put_head-after_head.new.out 0 c.put_head-after_head.result head (body d) first.bytes first.after c.put_records-after_records.result (next.after d w))
+    c.put_end.new.out c.put_end.ensures.bytes
     ∙ ap₂ (λ (bytes : List ℕ) (n : ℕ). sets out 0 (record_of 1 bytes ++ body d ++ record_of 4 (two n))) c.bytes.ensures count

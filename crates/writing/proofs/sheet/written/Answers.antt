@@ -21,16 +21,16 @@ pub returns-then-output-needed : goal.returns-then-output-needed
 returns-then-output-needed g c =
     let L = view c.args.layout.now in
     let live = c.in-Some.ensures in
-    let long = walk_measured g.row.K-Value.kind L c.args.places.now c.args.handle _ _ (collected c.reach-order.result) live.0 c.reach-order.ensures.walked c.measure-needed.result
+    let long = walk_measured g.K.Value.kind L c.args.places.now c.args.handle _ _ (collected c.reach-order.result) live.0 c.reach-order.ensures.walked c.measure-needed.result
     (omega (arith, c.measure-needed.ensures, c.size.ensures, c.len.ensures, c.nodes.ensures)) in
     record {
       answer = (inr (inr (refl, live.1, c.requires, λ d p _. omega (arith, long d p, c.if-output-needed.true))), refl);
       past = c.reach-order.ensures.past;
     }
 
-pub put-sheet-requires : goal.put-sheet-requires
-put-sheet-requires g c =
-    let K = g.row.K-Value.kind in
+pub put_sheet-requires : goal.put_sheet-requires
+put_sheet-requires g c =
+    let K = g.K.Value.kind in
     let L = view c.args.layout.now in
     let t = c.args.places.now in
     let live = c.in-Some.ensures in
@@ -45,7 +45,7 @@ put-sheet-requires g c =
 
 pub returns : goal.returns
 returns g c =
-    let K = g.row.K-Value.kind in
+    let K = g.K.Value.kind in
     let L = view c.args.layout.now in
     let t = c.args.places.now in
     let live = c.in-Some.ensures in
@@ -63,7 +63,7 @@ returns g c =
               long = long d p;
               fits = fits;
               bytes =
-                  c.put-sheet.ensures d (from d p)
+                  c.put_sheet.ensures d (from d p)
                   ∙ ap (λ (head : List ℕ). sets output 0 (under_head head d)) c.of.ensures
                   ∙ sets_front output (sheet K L d) fits;
             },

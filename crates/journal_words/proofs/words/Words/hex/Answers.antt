@@ -5,4 +5,4 @@ use Rattle.journal_words.proofs.Taking.{unlooked}
 use Rattle.journal_words.proofs.words.Words.hex.Goals as goal
 
 pub returns : goal.returns
-returns c = ap (requests.first requests.Hex) c.in-ok-word.ensures ∙ unlooked (hexOf c.in-ok-word.word.now) _ c.in-ok-check-hex.ensures
+returns c = ap (requests.first requests.Hex) c.in_ok-word.ensures ∙ unlooked (hexOf c.in_ok-word.word.now) _ c.in_ok-check_hex.ensures

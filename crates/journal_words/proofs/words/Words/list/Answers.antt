@@ -7,5 +7,5 @@ use Rattle.journal_words.proofs.words.Words.list.Goals as goal
 
 pub returns : goal.returns
 returns c =
-    table_part lists UnknownList requests.list requests.Shown c.args.self.now c.word.new.self c.in-ok-word.word.now c.text.result.now c.named.result c.ok-or.result
-    (λ w ws. refl) refl c.in-ok-word.ensures c.text.ensures c.named.ensures c.ok-or.ensures.value
+    table_part lists UnknownList requests.list requests.Shown c.args.self.now c.word.new.self c.in_ok-word.word.now c.text.result.now c.named.result c.ok_or.result
+    (λ w ws. refl) refl c.in_ok-word.ensures c.text.ensures c.named.ensures c.ok_or.ensures.value

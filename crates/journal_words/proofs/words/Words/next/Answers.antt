@@ -5,24 +5,24 @@ use Rattle.journal_text.specs.Scans.{within}
 use Rattle.journal_words.proofs.Scanning.{no_words, next_word}
 use Rattle.journal_words.proofs.words.Words.next.Goals as goal
 
-pub split-at-requires : goal.split-at-requires
-split-at-requires c = omega (arith, c.run.ensures, prefix_len-le-length (within Blank) c.args.self.now.rest.now)
+pub split_at-requires : goal.split_at-requires
+split_at-requires c = omega (arith, c.run.ensures, prefix_len-le-length (within Blank) c.args.self.now.rest.now)
 
-pub returns-then-is-empty : goal.returns-then-is-empty
-returns-then-is-empty c =
+pub returns-then-is_empty : goal.returns-then-is_empty
+returns-then-is_empty c =
     let bs = c.args.self.now.rest.now in
-    no_words bs c.split-at.result.1.now (c.split-at.ensures.back ∙ ap (λ n. drop n bs) c.run.ensures) (true-eqb _ 0 c.if-is-empty.ensures)
+    no_words bs c.split_at.result.1.now (c.split_at.ensures.back ∙ ap (λ n. drop n bs) c.run.ensures) (true-eqb _ 0 c.if-is_empty.ensures)
 
-pub split-at-requires-2 : goal.split-at-requires-2
-split-at-requires-2 c = omega (arith, c.run-2.ensures, prefix_len-le-length (within Solid) c.split-at.result.1.now)
+pub split_at-requires-2 : goal.split_at-requires-2
+split_at-requires-2 c = omega (arith, c.run-2.ensures, prefix_len-le-length (within Solid) c.split_at.result.1.now)
 
 pub returns : goal.returns
 returns c =
     let bs = c.args.self.now.rest.now in
-    let text = c.split-at.result.1.now in
-    let some : 0 < length text = omega (arith, false-eqb (length text) 0 c.if-is-empty.ensures) in
+    let text = c.split_at.result.1.now in
+    let some : 0 < length text = omega (arith, false-eqb (length text) 0 c.if-is_empty.ensures) in
     next_word bs text _ _
-    (c.split-at.ensures.back ∙ ap (λ n. drop n bs) c.run.ensures)
+    (c.split_at.ensures.back ∙ ap (λ n. drop n bs) c.run.ensures)
     some
-    (c.split-at-2.ensures.front ∙ ap (λ n. take n text) c.run-2.ensures)
-    (c.split-at-2.ensures.back ∙ ap (λ n. drop n text) c.run-2.ensures)
+    (c.split_at-2.ensures.front ∙ ap (λ n. take n text) c.run-2.ensures)
+    (c.split_at-2.ensures.back ∙ ap (λ n. drop n text) c.run-2.ensures)

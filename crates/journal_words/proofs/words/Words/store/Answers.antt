@@ -9,5 +9,5 @@ use Rattle.journal_words.proofs.words.Words.store.Goals as goal
 
 pub returns-in-None : goal.returns-in-None
 returns-in-None c =
-    ap (requests.first requests.Store) c.in-ok-word.ensures
-    ∙ ap (λ o. requests.after (ok_or o UnknownStore) (λ s. requests.store_of s (left c.word.new.self))) (sym (c.in-None.ensures ∙ same_row stores c.in-ok-word.word.now c.text.result.now refl c.text.ensures))
+    ap (requests.first requests.Store) c.in_ok-word.ensures
+    ∙ ap (λ o. requests.after (ok_or o UnknownStore) (λ s. requests.store_of s (left c.word.new.self))) (sym (c.in-None.ensures ∙ same_row stores c.in_ok-word.word.now c.text.result.now refl c.text.ensures))

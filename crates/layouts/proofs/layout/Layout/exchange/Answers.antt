@@ -23,8 +23,8 @@ moved c = record {
   forms_are = c.swap-3.ensures.after;
 }
 
-pub invariant-of-self : goal.invariant-of-self
-invariant-of-self c =
+pub invariant_of-self : goal.invariant_of-self
+invariant_of-self c =
     let y = c.args.self.now in
     (y.some, (y.most, (still_marked y _ _ _ _ _ (moved c), (still_levelled y _ _ _ _ _ (moved c), (still_onto y _ _ _ _ _ (moved c), (still_back y _ _ _ _ _ (moved c), tt))))))
 

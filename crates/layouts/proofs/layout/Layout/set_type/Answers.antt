@@ -11,8 +11,8 @@ bounds-self-level c = level_below c.args.self.now c.args.mark (omega arith) (ome
 pub returns : goal.returns
 returns c =
     let y = c.args.self.now in
-    let form = c.in-ok-form.form in
-    let known = formed_is c.args.number form (sym c.in-ok-form.was ∙ c.new.ensures) in
+    let form = c.in_ok-form.form in
+    let known = formed_is c.args.number form (sym c.in_ok-form.was ∙ c.new.ensures) in
     record {
       answer =
           ap laid (retyped_plan y c.args.mark (omega arith) (omega arith) form _ (omega arith) known.1)

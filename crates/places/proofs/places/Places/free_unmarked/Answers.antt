@@ -2,8 +2,8 @@ use Rattle.std.proofs.Common.{refl}
 use Rattle.places.proofs.Swept.{swept_rules, swept_freed}
 use Rattle.places.proofs.places.Places.free_unmarked.Goals as goal
 
-pub invariant-of-self : goal.invariant-of-self
-invariant-of-self c =
+pub invariant_of-self : goal.invariant_of-self
+invariant_of-self c =
     swept_rules c.args.self.now c.args.marks.now c.requires.keeps c.sweep.new.places c.sweep.result c.sweep.ensures
 
 pub returns : goal.returns

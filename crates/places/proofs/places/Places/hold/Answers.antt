@@ -3,8 +3,8 @@ use Rattle.places.specs.Contents.{blank}
 use Rattle.places.proofs.Recounted.{recounted, holding, more_keeps}
 use Rattle.places.proofs.places.Places.hold.Goals as goal
 
-pub invariant-of-self : goal.invariant-of-self
-invariant-of-self c =
+pub invariant_of-self : goal.invariant_of-self
+invariant_of-self c =
     let t = c.args.self.now in
     let p = c.hold.new.self in
     recounted t c.args.h c.requires p (more_keeps (get_or t.places c.args.h blank) p c.hold.result c.hold.ensures)

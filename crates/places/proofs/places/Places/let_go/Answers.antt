@@ -3,11 +3,11 @@ use Rattle.places.specs.Contents.{blank}
 use Rattle.places.proofs.Recounted.{recounted, letting_go, less_keeps}
 use Rattle.places.proofs.places.Places.let_go.Goals as goal
 
-pub invariant-of-self : goal.invariant-of-self
-invariant-of-self c =
+pub invariant_of-self : goal.invariant_of-self
+invariant_of-self c =
     let t = c.args.self.now in
-    let p = c.let-go.new.self in
-    recounted t c.args.h c.requires p (less_keeps (get_or t.places c.args.h blank) p c.let-go.result c.let-go.ensures)
+    let p = c.let_go.new.self in
+    recounted t c.args.h c.requires p (less_keeps (get_or t.places c.args.h blank) p c.let_go.result c.let_go.ensures)
 
 pub returns : goal.returns
-returns c = letting_go c.args.self.now c.args.h c.requires c.let-go.new.self _ refl refl c.let-go.result c.let-go.ensures
+returns c = letting_go c.args.self.now c.args.h c.requires c.let_go.new.self _ refl refl c.let_go.result c.let_go.ensures

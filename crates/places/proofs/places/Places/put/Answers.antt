@@ -4,8 +4,8 @@ use Rattle.places.specs.Contents.{seen_content, at}
 use Rattle.places.proofs.Filled.{Filled, set_filled, nowhere, filled_past, filled_idle, filled_deeper, filled_apart, filled_leafy}
 use Rattle.places.proofs.places.Places.put.Goals as goal
 
-pub invariant-of-self : goal.invariant-of-self
-invariant-of-self c =
+pub invariant_of-self : goal.invariant_of-self
+invariant_of-self c =
     let t = c.args.self.now in
     let h = c.args.h in
     let got = c.requires.spare in

@@ -19,23 +19,23 @@ roomy g c seen listed = lt-leb _ _ (omega (arith, c.if-self-expected.false, list
 module _ (g : given.Over) (c : goal.Else-misplaces g) (L : Layout) (seen : List Diagram) (size : length c.args.expected.types.now ≡ L.size)
     (listed : Listed c.args.self.bytes.now c.args.self.list.now seen) where
   -- Rule 19 is kept.
-  right : is_broken 19 (node_rules g.row.V-Value.kind L c.args.expected.limit seen c.args.level c.args.low c.args.high) ≡ false
-  right = sym (c.if-misplaces.ensures g.row.V-Value.kind L c.args.expected.limit seen listed size)
+  right : is_broken 19 (node_rules g.V.Value.kind L c.args.expected.limit seen c.args.level c.args.low c.args.high) ≡ false
+  right = sym (c.if-misplaces.ensures g.V.Value.kind L c.args.expected.limit seen listed size)
 
   placed : (c.args.level < L.size) × (c.args.low < length seen) × (c.args.high < length seen)
-  placed = node_placed g.row.V-Value.kind L c.args.expected.limit seen c.args.level c.args.low c.args.high (sym right)
+  placed = node_placed g.V.Value.kind L c.args.expected.limit seen c.args.level c.args.low c.args.high (sym right)
 
 -- Rule 20 is kept.
 stays : (g : given.Over) (c : goal.Else-drops g) (L : Layout) (seen : List Diagram) → Types L c.args.expected.types.now
     → Listed c.args.self.bytes.now c.args.self.list.now seen
-    → is_broken 20 (node_rules g.row.V-Value.kind L c.args.expected.limit seen c.args.level c.args.low c.args.high) ≡ false
+    → is_broken 20 (node_rules g.V.Value.kind L c.args.expected.limit seen c.args.level c.args.low c.args.high) ≡ false
 stays g c L seen types listed =
     let p = placed g (goal.at.Else-drops g c).Else-misplaces L seen types.size listed in
     sym (c.if-drops.ensures (L.type c.args.level) seen listed.held p.1 p.2 (types.type_at c.args.level p.0))
 
 pub returns-then-misplaces : goal.returns-then-misplaces
 returns-then-misplaces g c = λ L seen types listed.
-    rw (roomy g (goal.at.returns-then-misplaces g c).Else-self-expected seen listed, sym (c.if-misplaces.ensures g.row.V-Value.kind L c.args.expected.limit seen listed types.size)) refl
+    rw (roomy g (goal.at.returns-then-misplaces g c).Else-self-expected seen listed, sym (c.if-misplaces.ensures g.V.Value.kind L c.args.expected.limit seen listed types.size)) refl
 
 pub bounds-expected-level : goal.bounds-expected-level
 bounds-expected-level g c = (placed g (goal.at.bounds-expected-level g c).Else-misplaces (begun (length c.args.expected.types.now)) c.requires.read.0 refl c.requires.read.1).0

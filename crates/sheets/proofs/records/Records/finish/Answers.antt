@@ -4,19 +4,19 @@ use mir.Facts.{Fits-below}
 use Rattle.sheets.proofs.Scanning.{held, near, extra, all_right, one_wrong}
 use Rattle.sheets.proofs.records.Records.finish.Goals as goal
 
-pub overflow-add-after : goal.overflow-add-after
-overflow-add-after c =
+pub overflow_add-after : goal.overflow_add-after
+overflow_add-after c =
     let read = c.requires.3 in
     Fits-below {n = 600006} tt (omega (arith, near read.lawful read.small read.ends.at read.room))
 
 pub returns-then-after-self : goal.returns-then-after-self
 returns-then-after-self c = λ K L limit read. extra read.lawful read.small read.ends read.room c.if-after-self.true
 
-pub overflow-sub-end : goal.overflow-sub-end
-overflow-sub-end c = omega (arith, c.requires.3.ends.some)
+pub overflow_sub-end : goal.overflow_sub-end
+overflow_sub-end c = omega (arith, c.requires.3.ends.some)
 
-pub overflow-cast-end : goal.overflow-cast-end
-overflow-cast-end c = let read = c.requires.3 in Fits-below {n = 65535} tt (omega (arith, read.ends.at.counted, read.ends.at.fits, read.small))
+pub overflow_cast-end : goal.overflow_cast-end
+overflow_cast-end c = let read = c.requires.3 in Fits-below {n = 65535} tt (omega (arith, read.ends.at.counted, read.ends.at.fits, read.small))
 
 pub visit-requires : goal.visit-requires
 visit-requires c =

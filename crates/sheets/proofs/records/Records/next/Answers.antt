@@ -7,27 +7,27 @@ use Rattle.sheets.specs.Faults.{Tells}
 use Rattle.sheets.proofs.Judging.{frame_right, frame_wrong}
 use Rattle.sheets.proofs.records.Records.next.Goals as goal
 
-pub returns-in-err-item : goal.returns-in-err-item
-returns-in-err-item g c = λ L seen types listed.
+pub returns-in_err-item : goal.returns-in_err-item
+returns-in_err-item g c = λ L seen types listed.
     let q = err_from_is_err_and c.from-residual.result c.from-residual.ensures.1 in
     let lent : List ℕ = take (length c.args.self.bytes.now - c.args.place) (drop c.args.place c.args.self.bytes.now) in
     rw (q.1, q.2)
-    (subst (λ rest. Tells (found g.row.V-Value.kind L c.args.expected.limit seen rest) c.args.place c.in-err-item.field-0.0) (take_rest c.args.self.bytes.now c.args.place)
-    (frame_wrong g.row.V-Value.kind L c.args.expected.limit seen (length c.args.self.list.now) c.args.place lent listed.whole c.in-err-item.field-0.0 c.in-err-item.ensures))
+    (subst (λ rest. Tells (found g.V.Value.kind L c.args.expected.limit seen rest) c.args.place c.in_err-item.field-0.0) (take_rest c.args.self.bytes.now c.args.place)
+    (frame_wrong g.V.Value.kind L c.args.expected.limit seen (length c.args.self.list.now) c.args.place lent listed.whole c.in_err-item.field-0.0 c.in_err-item.ensures))
 
 pub returns-in-Ok : goal.returns-in-Ok
 returns-in-Ok g c = λ L seen types listed.
     let lent : List ℕ = take (length c.args.self.bytes.now - c.args.place) (drop c.args.place c.args.self.bytes.now) in
-    ap (found g.row.V-Value.kind L c.args.expected.limit seen) (sym (take_rest c.args.self.bytes.now c.args.place))
-    ∙ frame_right g.row.V-Value.kind L c.args.expected.limit seen (length c.args.self.list.now) c.args.place lent listed.whole c.in-ok-item.item c.in-ok-item.ensures
+    ap (found g.V.Value.kind L c.args.expected.limit seen) (sym (take_rest c.args.self.bytes.now c.args.place))
+    ∙ frame_right g.V.Value.kind L c.args.expected.limit seen (length c.args.self.list.now) c.args.place lent listed.whole c.in_ok-item.item c.in_ok-item.ensures
     ∙ sym (c.in-Ok.ensures L seen types listed)
 
 pub returns-in-Err : goal.returns-in-Err
 returns-in-Err g c = λ L seen types listed.
     let lent : List ℕ = take (length c.args.self.bytes.now - c.args.place) (drop c.args.place c.args.self.bytes.now) in
     record {
-      refused = ap (found g.row.V-Value.kind L c.args.expected.limit seen) (sym (take_rest c.args.self.bytes.now c.args.place))
-          ∙ frame_right g.row.V-Value.kind L c.args.expected.limit seen (length c.args.self.list.now) c.args.place lent listed.whole c.in-ok-item.item c.in-ok-item.ensures
+      refused = ap (found g.V.Value.kind L c.args.expected.limit seen) (sym (take_rest c.args.self.bytes.now c.args.place))
+          ∙ frame_right g.V.Value.kind L c.args.expected.limit seen (length c.args.self.list.now) c.args.place lent listed.whole c.in_ok-item.item c.in_ok-item.ensures
           ∙ sym (c.in-Err.ensures L seen types listed);
       there = refl;
     }

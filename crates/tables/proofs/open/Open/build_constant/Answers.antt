@@ -11,11 +11,11 @@ use Rattle.tables.proofs.open.Open.build_constant.Goals as goal
 
 pub returns : goal.returns
 returns g c =
-    let K = g.row.K-Value.kind in
+    let K = g.K.Value.kind in
     let start = c.args.self.now in
     let v = c.args.word in
-    let ok : Lawful K (view start.layout) = record { laws = g.row.K-Value.laws; valid = layout_valid start.layout } in
-    let val : T (K.value v) = subst T (sym (sym c.is-value.ensures ∙ c.if-not-is-value.false)) tt in
+    let ok : Lawful K (view start.layout) = record { laws = g.K.Value.laws; valid = layout_valid start.layout } in
+    let val : T (K.value v) = subst T (sym (sym c.is_value.ensures ∙ c.if-not-is_value.false)) tt in
     keeps ok (λ sound.
     settled_build K g.S.Store.entries start (constant v) (Tasks.constant v) ok sound refl val
     (λ room. (passes (λ none. none val), (room, tt))) (λ full. inr (passes (λ none. none val), inl full))

@@ -11,10 +11,10 @@ use Rattle.tables.proofs.open.Open.build_mark.Goals as goal
 
 pub returns : goal.returns
 returns g c =
-    let K = g.row.K-Value.kind in
+    let K = g.K.Value.kind in
     let start = c.args.self.now in
     let i = c.args.index in
-    let ok : Lawful K (view start.layout) = record { laws = g.row.K-Value.laws; valid = layout_valid start.layout } in
+    let ok : Lawful K (view start.layout) = record { laws = g.K.Value.laws; valid = layout_valid start.layout } in
     let inside : i < start.layout.size = omega arith in
     keeps ok (λ sound.
     settled_build K g.S.Store.entries start (mark i) (Tasks.mark i) ok sound refl (omega arith, inside)

@@ -10,10 +10,10 @@ use Rattle.tables.proofs.open.Open.read_sheet.Goals as goal
 
 pub returns : goal.returns
 returns g c =
-    let K = g.row.K-Value.kind in
+    let K = g.K.Value.kind in
     let start = c.args.self.now in
-    let ok : Lawful K (view start.layout) = record { laws = g.row.K-Value.laws; valid = layout_valid start.layout } in
-    let bytes = All-from_get_or (λ b. b < 256) c.args.bytes.now 0 (λ i _. Fits-lt-pow {w = w8} (c.type-inv.bytes i)) in
+    let ok : Lawful K (view start.layout) = record { laws = g.K.Value.laws; valid = layout_valid start.layout } in
+    let bytes = All-from_get_or (λ b. b < 256) c.args.bytes.now 0 (λ i _. Fits-lt-pow {w = w8} (c.type_inv.bytes i)) in
     record {
       step = keeps ok (λ sound.
           took_step K g.S.Store.entries start c.take.new.self c.args.bytes.now c.args.walk.now c.take.new.walk c.take.result ok sound c.take.ensures.list bytes

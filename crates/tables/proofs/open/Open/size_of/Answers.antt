@@ -8,6 +8,6 @@ use Rattle.tables.proofs.open.Open.size_of.Goals as goal
 pub returns : goal.returns
 returns g c =
     let start = c.args.self.now in
-    keeps (record { laws = g.row.K-Value.laws; valid = layout_valid start.layout })
-    (λ sound. sized_step g.row.K-Value.kind (view start.layout) (g.S.Store.entries start.store) opened start.places c.args.handle c.args.walk.now
+    keeps (record { laws = g.K.Value.laws; valid = layout_valid start.layout })
+    (λ sound. sized_step g.K.Value.kind (view start.layout) (g.S.Store.entries start.store) opened start.places c.args.handle c.args.walk.now
     c.size.new.walk c.size.result sound c.size.ensures.list c.size.ensures.answer)

@@ -6,8 +6,8 @@ use Rattle.tables.proofs.open.Open.start.Goals as goal
 
 pub returns : goal.returns
 returns g c = record {
-  made = read_made g.row.K-Value.kind (view c.args.layout) (g.S.Store.entries c.forget.new.self) c.fresh-places.result c.args.capacity.places c.get.result
-      c.zero-word.result c.one-word.result (capacity_within c.args.capacity) c.get.ensures c.zero-word.ensures c.one-word.ensures c.fresh-places.ensures c.forget.ensures;
-  lawful = record { laws = g.row.K-Value.laws; valid = layout_valid c.args.layout };
+  made = read_made g.K.Value.kind (view c.args.layout) (g.S.Store.entries c.forget.new.self) c.fresh-places.result c.args.capacity.places c.get.result
+      c.zero_word.result c.one_word.result (capacity_within c.args.capacity) c.get.ensures c.zero_word.ensures c.one_word.ensures c.fresh-places.ensures c.forget.ensures;
+  lawful = record { laws = g.K.Value.laws; valid = layout_valid c.args.layout };
   sameness = all_lasting;
 }

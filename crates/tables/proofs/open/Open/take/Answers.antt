@@ -9,7 +9,7 @@ returns-in-Ok g c = record {
   table = record {
     layout = refl;
     filled = c.read.new.places;
-    reads = subst (λ h. Reads g.row.K-Value.kind (view c.args.self.now.layout) c.args.self.now.places c.read.new.places c.args.bytes.now c.args.walk.now (Ok h))
+    reads = subst (λ h. Reads g.K.Value.kind (view c.args.self.now.layout) c.args.self.now.places c.read.new.places c.args.bytes.now c.args.walk.now (Ok h))
         (sym c.from.ensures) c.in-Ok.ensures.answer;
     left = (refl, refl);
   };
@@ -19,12 +19,12 @@ returns-in-Ok g c = record {
 pub returns-in-Err : goal.returns-in-Err
 returns-in-Err g c = record {
   table = record {
-    layout = c.turn-back.ensures.layout;
+    layout = c.turn_back.ensures.layout;
     filled = c.read.new.places;
     reads = c.in-Err.ensures.answer;
     left = subst
-        (λ t. Left t c.read.new.places (g.S.Store.entries c.args.self.now.store) c.turn-back.new.self.places (g.S.Store.entries c.turn-back.new.self.store) (Err c.in-Err.fault))
-        c.save-saved.ensures c.turn-back.ensures.left;
+        (λ t. Left t c.read.new.places (g.S.Store.entries c.args.self.now.store) c.turn_back.new.self.places (g.S.Store.entries c.turn_back.new.self.store) (Err c.in-Err.fault))
+        c.save-saved.ensures c.turn_back.ensures.left;
   };
   list = c.in-Err.ensures.list;
 }

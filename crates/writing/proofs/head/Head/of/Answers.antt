@@ -4,12 +4,12 @@ use Rattle.writing.specs.Heads.{head_bytes}
 use Rattle.writing.proofs.Levels.{level_length}
 use Rattle.writing.proofs.head.Head.of.Goals as goal
 
-pub push-types-requires : goal.push-types-requires
-push-types-requires g c =
+pub push_types-requires : goal.push_types-requires
+push_types-requires g c =
     let L = view c.args.layout.now in
     omega (
       arith,
-      level_length (head_bytes c.push-2.new.self) _ L.size L.mark c.push-marks.ensures,
+      level_length (head_bytes c.push-2.new.self) _ L.size L.mark c.push_marks.ensures,
       simp length-append at (ap length c.push-2.ensures),
       simp length-append at (ap length c.push.ensures),
       ap length c.new-head.ensures,
