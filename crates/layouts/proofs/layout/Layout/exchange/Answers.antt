@@ -9,7 +9,7 @@ use Rattle.layouts.proofs.layout.Layout.exchange.Goals.{After-swap-3}
 pub swap-requires : goal.swap-requires
 swap-requires c =
     let y = c.args.self.now in
-    record { a-in-bounds = mark_below y c.args.a (omega arith) (omega arith) (omega arith); b-in-bounds = mark_below y c.args.b (omega arith) (omega arith) (omega arith) }
+    record { a_in_bounds = mark_below y c.args.a (omega arith) (omega arith) (omega arith); b_in_bounds = mark_below y c.args.b (omega arith) (omega arith) (omega arith) }
 
 moved : (c : After-swap-3) → Exchanged c.args.self.now c.args.a c.args.b c.swap-2.new.self c.swap.new.self c.swap-3.new.self
 moved c = record {
@@ -26,7 +26,14 @@ moved c = record {
 pub invariant_of-self : goal.invariant_of-self
 invariant_of-self c =
     let y = c.args.self.now in
-    (y.some, (y.most, (still_marked y _ _ _ _ _ (moved c), (still_levelled y _ _ _ _ _ (moved c), (still_onto y _ _ _ _ _ (moved c), (still_back y _ _ _ _ _ (moved c), tt))))))
+    record {
+      some = y.some;
+      most = y.most;
+      marked = still_marked y _ _ _ _ _ (moved c);
+      levelled = still_levelled y _ _ _ _ _ (moved c);
+      onto = still_onto y _ _ _ _ _ (moved c);
+      back = still_back y _ _ _ _ _ (moved c);
+    }
 
 pub returns : goal.returns
 returns c =
