@@ -8,7 +8,7 @@ pub returns-in-Value : goal.returns-in-Value
 returns-in-Value g t c = value_combined c.in-Value.ensures c.leaf.ensures
 
 pub returns-in_err-low : goal.returns-in_err-low
-returns-in_err-low g t c = stop1 c.in-Parts.ensures c.from-residual.ensures c.in_err-low.ensures
+returns-in_err-low g t c = stop1 c.in-Parts.ensures c.from_residual.ensures c.in_err-low.ensures
 
 pub combine-requires-then-crosses : goal.combine-requires-then-crosses
 combine-requires-then-crosses g t c κs within =
@@ -17,7 +17,7 @@ combine-requires-then-crosses g t c κs within =
     (omega (arith, p.level, p.small, q.0.level, q.1.level, c.decreases), (within.0, (within.1, (q.0.used, q.1.used))))
 
 pub returns-in_err-lh : goal.returns-in_err-lh
-returns-in_err-lh g t c = stop2 c.in-Parts.ensures c.in_ok-low.ensures (crosses_by (meant c.args.operation) c.if-crosses.ensures c.form.ensures) c.from-residual-in_err-lh.ensures c.in_err-lh.ensures
+returns-in_err-lh g t c = stop2 c.in-Parts.ensures c.in_ok-low.ensures (crosses_by (meant c.args.operation) c.if-crosses.ensures c.form.ensures) c.from_residual-in_err-lh.ensures c.in_err-lh.ensures
 
 pub combine-requires-then-crosses-2 : goal.combine-requires-then-crosses-2
 combine-requires-then-crosses-2 g t c κs within =
@@ -28,7 +28,7 @@ combine-requires-then-crosses-2 g t c κs within =
 pub returns-in_err-hl : goal.returns-in_err-hl
 returns-in_err-hl g t c =
     stop3 c.in-Parts.ensures c.in_ok-low.ensures (crosses_by (meant c.args.operation) c.if-crosses.ensures c.form.ensures) c.in_ok-lh.ensures
-    c.from-residual-in_err-hl.ensures c.in_err-hl.ensures
+    c.from_residual-in_err-hl.ensures c.in_err-hl.ensures
 
 pub combine-requires-then-crosses-3 : goal.combine-requires-then-crosses-3
 combine-requires-then-crosses-3 g t c κs within =
@@ -39,7 +39,7 @@ combine-requires-then-crosses-3 g t c κs within =
 pub returns-in_err-mixed : goal.returns-in_err-mixed
 returns-in_err-mixed g t c =
     stop4 c.in-Parts.ensures c.in_ok-low.ensures (crosses_by (meant c.args.operation) c.if-crosses.ensures c.form.ensures) c.in_ok-lh.ensures c.in_ok-hl.ensures
-    c.from-residual-in_err-mixed.ensures c.in_err-mixed.ensures
+    c.from_residual-in_err-mixed.ensures c.in_err-mixed.ensures
 
 pub combine-requires-then-crosses-4 : goal.combine-requires-then-crosses-4
 combine-requires-then-crosses-4 g t c κs within =
@@ -50,7 +50,7 @@ combine-requires-then-crosses-4 g t c κs within =
 pub returns-in_err-hh : goal.returns-in_err-hh
 returns-in_err-hh g t c =
     stop5 c.in-Parts.ensures c.in_ok-low.ensures (crosses_by (meant c.args.operation) c.if-crosses.ensures c.form.ensures) c.in_ok-lh.ensures c.in_ok-hl.ensures c.in_ok-mixed.ensures
-    c.from-residual-in_err-hh.ensures c.in_err-hh.ensures
+    c.from_residual-in_err-hh.ensures c.in_err-hh.ensures
 
 pub combine-requires-then-crosses-5 : goal.combine-requires-then-crosses-5
 combine-requires-then-crosses-5 g t c κs within =
@@ -61,7 +61,7 @@ combine-requires-then-crosses-5 g t c κs within =
 pub returns-in_err-high : goal.returns-in_err-high
 returns-in_err-high g t c =
     stop6 c.in-Parts.ensures c.in_ok-low.ensures (crosses_by (meant c.args.operation) c.if-crosses.ensures c.form.ensures) c.in_ok-lh.ensures c.in_ok-hl.ensures c.in_ok-mixed.ensures c.in_ok-hh.ensures
-    c.from-residual-in_err-high.ensures c.in_err-high.ensures
+    c.from_residual-in_err-high.ensures c.in_err-high.ensures
 
 pub finish-requires : goal.finish-requires
 finish-requires g t c =
@@ -81,7 +81,7 @@ combine-requires-2 g t c κs within =
     (omega (arith, p.level, p.small, q.0.level, q.1.level, c.decreases), (within.0, (within.1, (q.0.used, q.1.used))))
 
 pub returns-in_err-high-2 : goal.returns-in_err-high-2
-returns-in_err-high-2 g t c = high_stop c.in-Parts.ensures c.in_ok-low.ensures (crosses_by (meant c.args.operation) c.if-crosses.ensures c.form.ensures) c.from-residual-in_err-high-2.ensures c.in_err-high-2.ensures
+returns-in_err-high-2 g t c = high_stop c.in-Parts.ensures c.in_ok-low.ensures (crosses_by (meant c.args.operation) c.if-crosses.ensures c.form.ensures) c.from_residual-in_err-high-2.ensures c.in_err-high-2.ensures
 
 pub finish-requires-2 : goal.finish-requires-2
 finish-requires-2 g t c =

@@ -8,7 +8,7 @@ pub returns-in-Sum : goal.returns-in-Sum
 returns-in-Sum g t c = sum_restricted c.requires.mark c.requires.constant c.in-Sum.ensures c.combine.ensures
 
 pub returns-in_err-x : goal.returns-in_err-x
-returns-in_err-x g t c = low_stops c.requires.mark c.requires.constant c.in-Parts.ensures c.from-residual.ensures c.in_err-x.ensures
+returns-in_err-x g t c = low_stops c.requires.mark c.requires.constant c.in-Parts.ensures c.from_residual.ensures c.in_err-x.ensures
 
 pub restrict-requires-2 : goal.restrict-requires-2
 restrict-requires-2 g t c κs within =
@@ -19,7 +19,7 @@ restrict-requires-2 g t c κs within =
 
 pub returns-in_err-y : goal.returns-in_err-y
 returns-in_err-y g t c =
-    high_stops c.requires.mark c.requires.constant c.in-Parts.ensures c.in_ok-x.ensures c.from-residual-in_err-y.ensures c.in_err-y.ensures
+    high_stops c.requires.mark c.requires.constant c.in-Parts.ensures c.in_ok-x.ensures c.from_residual-in_err-y.ensures c.in_err-y.ensures
 
 pub finish-requires : goal.finish-requires
 finish-requires g t c =

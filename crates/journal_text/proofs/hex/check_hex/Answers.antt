@@ -14,7 +14,7 @@ loop-after-preserved c = end_turn c.loop-after.rest.now c.in_ok-after.field-0 c.
 
 pub returns-in_err-after : goal.returns-in_err-after
 returns-in_err-after c =
-    let p = err_from_is_err_and c.from-residual.result c.from-residual.ensures.1 in
+    let p = err_from_is_err_and c.from_residual.result c.from_residual.ensures.1 in
     rw (p.1, p.2) (end_err _ _ _ c.in_err-after.ensures c.loop-after.invariant)
 
 pub returns : goal.returns

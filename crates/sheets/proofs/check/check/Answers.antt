@@ -10,7 +10,7 @@ use Rattle.sheets.proofs.check.check.Goals.{In-ok-end}
 
 pub returns-in_err-check_head : goal.returns-in_err-check_head
 returns-in_err-check_head g c =
-    let q = err_from_is_err_and c.from-residual.result c.from-residual.ensures.1 in
+    let q = err_from_is_err_and c.from_residual.result c.from_residual.ensures.1 in
     record {
       answer = λ L suits.
           rw (q.1, q.2)
@@ -27,7 +27,7 @@ scan-requires g c = record {
 
 pub returns-in_err-end : goal.returns-in_err-end
 returns-in_err-end g c =
-    let q = err_from_is_err_and c.from-residual-in_err-end.result c.from-residual-in_err-end.ensures.1 in
+    let q = err_from_is_err_and c.from_residual-in_err-end.result c.from_residual-in_err-end.ensures.1 in
     record {
       answer = λ L suits. rw (q.1, q.2) (c.in_err-end.ensures.reads L suits (c.in_ok-check_head.ensures g.V.Value.kind L suits));
       past = c.in_err-end.ensures.past;

@@ -23,7 +23,7 @@ step-requires g c = record {
 
 pub returns-in_err-next : goal.returns-in_err-next
 returns-in_err-next g c =
-    let q = err_from_is_err_and c.from-residual.result c.from-residual.ensures.1 in
+    let q = err_from_is_err_and c.from_residual.result c.from_residual.ensures.1 in
     record {
       reads = λ L suits begun. rw (q.1, q.2) (c.in_err-next.ensures.reads L suits (c.loop-next.invariant.0 L suits begun));
       past = c.in_err-next.ensures.past ∙ c.loop-next.invariant.1;

@@ -23,7 +23,7 @@ next-requires g c =
 
 pub returns-in_err-next : goal.returns-in_err-next
 returns-in_err-next g c =
-    let q = err_from_is_err_and c.from-residual.result c.from-residual.ensures.1 in
+    let q = err_from_is_err_and c.from_residual.result c.from_residual.ensures.1 in
     record {
       reads = λ L suits at.
           let seen-there = listed suits.lawful suits.small at c.requires.room in

@@ -27,7 +27,7 @@ visit-requires t c =
 
 pub returns-in_err-after : goal.returns-in_err-after
 returns-in_err-after t c = λ seen held h k.
-    let q = err_from_is_err_and c.from-residual.result c.from-residual.ensures.1 in
+    let q = err_from_is_err_and c.from_residual.result c.from_residual.ensures.1 in
     let p = children c.args.self.bytes.now c.args.self.list.now seen held c.args.i h c.in-Node.level c.in-Node.low c.in-Node.high (c.in-Node.ensures seen held h) in
     rw (q.1, q.2)
     (visiting.low_strays seen c.args.i c.args.next c.in-Node.level c.in-Node.low c.in-Node.high _ held.apart h p.0 (omega (arith, c.if-i-next.false))
@@ -43,7 +43,7 @@ visit-requires-in-Node t c =
 
 pub returns-in_err-after-2 : goal.returns-in_err-after-2
 returns-in_err-after-2 t c = λ seen held h k.
-    let q = err_from_is_err_and c.from-residual-in_err-after-2.result c.from-residual-in_err-after-2.ensures.1 in
+    let q = err_from_is_err_and c.from_residual-in_err-after-2.result c.from_residual-in_err-after-2.ensures.1 in
     let p = children c.args.self.bytes.now c.args.self.list.now seen held c.args.i h c.in-Node.level c.in-Node.low c.in-Node.high (c.in-Node.ensures seen held h) in
     let low = c.in_ok-after.ensures seen held (omega (arith, p.1)) k in
     rw (q.1, q.2)

@@ -9,7 +9,7 @@ use Rattle.sheets.proofs.records.Records.next.Goals as goal
 
 pub returns-in_err-item : goal.returns-in_err-item
 returns-in_err-item g c = λ L seen types listed.
-    let q = err_from_is_err_and c.from-residual.result c.from-residual.ensures.1 in
+    let q = err_from_is_err_and c.from_residual.result c.from_residual.ensures.1 in
     let lent : List ℕ = take (length c.args.self.bytes.now - c.args.place) (drop c.args.place c.args.self.bytes.now) in
     rw (q.1, q.2)
     (subst (λ rest. Tells (found g.V.Value.kind L c.args.expected.limit seen rest) c.args.place c.in_err-item.field-0.0) (take_rest c.args.self.bytes.now c.args.place)
