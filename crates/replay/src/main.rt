@@ -10,6 +10,7 @@ mod setup;
 
 use failure::Failure;
 use std::io::Read;
+use std::process::ExitCode;
 use std::{env, fs, io};
 
 const HELP: &str = "replay FILE    carries out the journal in FILE
@@ -51,17 +52,26 @@ fn replay(rt: &HostRuntime, read: io::Result<Vec<u8>>) -> Result<(), Failure> {
     session::run(rt, &bytes)
 }
 
-fn main(rt: HostRuntime) -> Result<(), Failure> {
-    let mut args = env::args(&rt)?;
+// What the words after the program's name ask for.
+fn start(rt: &HostRuntime) -> Result<(), Failure> {
+    let mut args = env::args(rt)?;
     let _program = args.next();
     match args.next() {
-        None => replay(&rt, standard_input(&rt)),
+        None => replay(rt, standard_input(rt)),
         Some(word) => {
             if word.as_str() == "--help" {
                 rt.println(HELP)?;
                 return Ok(());
             }
-            replay(&rt, fs::read(&rt, word.as_str()))
+            replay(rt, fs::read(rt, word.as_str()))
         }
+    }
+}
+
+// Status 1 where the journal could not be carried out to its end: why stands on standard error by then.
+fn main(rt: HostRuntime) -> ExitCode {
+    match start(&rt) {
+        Ok(()) => ExitCode::SUCCESS,
+        Err(_failure) => ExitCode::FAILURE,
     }
 }
