@@ -1,10 +1,10 @@
 -- The number that digits write, read from the left. Assumes nothing.
-use Rattle.std.proofs.Common.{◌≡◌, ℕ, zero, suc, ◌+◌, ◌-◌, ◌*◌, ◌^◌, ◌<◌, ◌≤◌, min, Bool, true, false, cond, ◌&&◌, ltb, leb, List, [], ◌∷◌, length, get_or, take, Ok, Err, sym, refl, ap, ◌∙◌, arith}
+use Rattle.std.proofs.Common.{◌≡◌, ℕ, zero, suc, ◌+◌, ◌-◌, ◌*◌, ◌^◌, ◌<◌, ◌≤◌, min, Bool, true, ◌&&◌, ltb, leb, List, [], ◌∷◌, length, get_or, take, Ok, Err, ap, ◌∙◌, arith}
 use Rattle.std.specs.List.{list_all}
 use Rattle.std.proofs.lemmas.List.Sums.{fold_more}
 use Rattle.std.proofs.lemmas.List.{take_all}
 use Rattle.std.proofs.lemmas.Bool.{and_parts, and_from, leb-true, lt-ltb, le-ltb}
-use Rattle.journal_text.specs.declared.mistake.Mistake.TheVariants.{NotANumber, OutOfRange}
+use Rattle.journal_text.specs.declared.mistake.Mistake.TheVariants.{OutOfRange}
 use Rattle.journal_text.specs.declared.scan.Class.TheVariants.{Digit}
 use Rattle.journal_text.specs.Numbers.{value, decimal}
 use Rattle.journal_text.specs.Scans.{within}

@@ -1,5 +1,5 @@
 -- Bytes as pairs of hex digits. Assumes nothing.
-use Rattle.std.specs.Prelude.{◌≡◌, ℕ, ◌+◌, ◌-◌, ◌*◌, ◌/◌, ◌%◌, ◌<◌, Bool, cond, ◌&&◌, List, [], ◌∷◌, ◌++◌, length, Some, None, Ok, Err, vec_items, Option, Result, Vec, nat_le}
+use Rattle.std.specs.Prelude.{◌≡◌, ℕ, ◌+◌, ◌-◌, ◌*◌, ◌/◌, ◌%◌, ◌<◌, cond, ◌&&◌, List, [], ◌∷◌, length, Some, None, Ok, Err, vec_items, Option, Result, Vec, nat_le}
 use Rattle.journal_text.specs.declared.hex.Unread.{Unread}
 use Rattle.journal_text.specs.declared.hex.Unread.TheVariants as unread
 use Rattle.journal_text.specs.declared.mistake.Mistake.{Mistake}

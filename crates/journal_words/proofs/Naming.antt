@@ -1,5 +1,5 @@
 -- A name is text. Assumes nothing.
-use Rattle.std.proofs.Common.{◌≡◌, ℕ, ◌<◌, Bool, true, false, cond, ◌&&◌, ◌||◌, eqb, ltb, leb, List, [], ◌∷◌, Some, None, Ok, Err, IsUtf8, Result, sym, refl, ap, ◌∙◌, ⊎_elim, arith, MutBor, MatchResult}
+use Rattle.std.proofs.Common.{◌≡◌, ℕ, Bool, true, cond, ◌||◌, eqb, ltb, leb, List, [], ◌∷◌, Some, None, Ok, Err, IsUtf8, Result, sym, refl, ap, ◌∙◌, ⊎_elim, arith, Bor, MatchResult}
 use Rattle.std.specs.Option.{option_map}
 use Rattle.std.specs.Result.{result_ok}
 use Rattle.std.specs.List.{list_all}
@@ -28,6 +28,6 @@ name_text [] h = let z : ◌≡◌ {A = ℕ} 0 1 = cc in absurd (omega arith)
 name_text (b ∷ w) h = is_text (b ∷ w) (weaker (within NameByte) (λ b. ltb b 128) low (b ∷ w) (and_parts (letter b) (list_all (within NameByte) (b ∷ w)) h).1)
 
 -- the text of a name is that name
-pub named : {E : Type 0} (Q : E → Type 0) (w : List ℕ) (r : Result (MutBor (List ℕ)) E) → isName w ≡ true → MatchResult r (λ s. (s.now ≡ w) × IsUtf8 w) (λ e. (IsUtf8 w → ⊥) × Q e) → option_map (λ x. x.now) (result_ok r) ≡ name_of w
+pub named : {E : Type 0} (Q : E → Type 0) (w : List ℕ) (r : Result (Bor (List ℕ)) E) → isName w ≡ true → MatchResult r (λ s. (s.now ≡ w) × IsUtf8 w) (λ e. (IsUtf8 w → ⊥) × Q e) → option_map (λ x. x.now) (result_ok r) ≡ name_of w
 named Q w (Ok s) h c = ap Some c.0 ∙ sym (ap (λ t. cond t (Some w) None) h)
 named Q w (Err e) h c = absurd (c.0 (name_text w h))

@@ -1,5 +1,5 @@
 -- What an operand takes of a line's words. Assumes nothing.
-use Rattle.std.proofs.Common.{◌≡◌, ℕ, true, List, [], ◌∷◌, is_ok, Ok, Err, Option, Result, sym, refl, ap, ◌∙◌, arith}
+use Rattle.std.proofs.Common.{◌≡◌, ℕ, true, List, ◌∷◌, is_ok, Ok, Err, Option, Result, sym, refl, ap, ◌∙◌, arith}
 use Rattle.std.specs.Option.{ok_or}
 use Rattle.journal_text.specs.declared.mistake.Mistake.{Mistake}
 use Rattle.journal_words.specs.declared.words.Words.{Words}

@@ -1,5 +1,5 @@
 -- What reading an operand leaves of a line's words. Assumes nothing.
-use Rattle.std.specs.Prelude.{◌≡◌, ℕ, List, [], Ok, Err, Result, MatchResult}
+use Rattle.std.specs.Prelude.{◌≡◌, List, Ok, Err, Result, MatchResult}
 use Rattle.journal_text.specs.declared.mistake.Mistake.{Mistake}
 use Rattle.journal_words.specs.declared.words.Words.{Words}
 use Rattle.journal_words.specs.Requests.{Slot, Part, first, taken, answered}

@@ -1,4 +1,3 @@
-use Rattle.std.proofs.Common.{sym}
 use Rattle.std.proofs.lemmas.Result.{err_from_is_err_and}
 use Rattle.journal_text.proofs.Pairs.{same_end, end_ok, end_err, begins_none, fewer, end_turn}
 use Rattle.journal_text.proofs.hex.check_hex.Goals as goal

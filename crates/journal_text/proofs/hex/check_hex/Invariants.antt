@@ -1,4 +1,4 @@
-use Rattle.std.proofs.Common.{◌≡◌, length, is_ok}
+use Rattle.std.proofs.Common.{length}
 use Rattle.journal_text.specs.Hex.{bytes_of, hexOf}
 use Rattle.journal_text.proofs.Pairs.{SameEnd}
 use Rattle.journal_text.proofs.hex.check_hex.Given as goal
