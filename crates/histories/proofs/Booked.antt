@@ -6,14 +6,14 @@ use Rattle.diagrams.specs.Kinds.{Kind}
 use Rattle.diagrams.specs.Layouts.{Layout, put}
 use Rattle.diagrams.specs.Diagrams.{Lawful, Diagram, leaf, rule}
 use Rattle.diagrams.specs.Tasks.{Task, act, meaning}
-use Rattle.diagrams.specs.Places.{Place, from_zero, from_one, from_held}
+use Rattle.diagrams.specs.Places.{Place}
 use Rattle.diagrams.specs.Reading.{read_sheet, drawn}
 use Rattle.diagrams.proofs.Bits.{put_below}
 use Rattle.diagrams.proofs.Whole.{writes_back}
 use Rattle.histories.specs.Builds.{Build, constant, mark, combine, restrict}
 use Rattle.histories.specs.Tables.{Model, content, count, StandsFor, Agree, HasRule, Made}
 use Rattle.histories.specs.Requests.{Call, build, read, hold, let_go, sweep, look, release, reopen, Asked, Reply, gives, refused, accepts, Answer}
-use Rattle.histories.specs.Steps.{Means, Faultless, Reached, PlacesStay, Gains, Counted, Swept, faults, Does, Step}
+use Rattle.histories.specs.Steps.{Means, Faultless, Reached, from_zero, from_one, from_held, PlacesStay, Gains, Counted, Swept, faults, Does, Step}
 use Rattle.histories.specs.Books.{Book, Ledger, changed, entered, struck, with_one, with_two, built_rule, sheet_rule, noted, first_book, ledger}
 use Rattle.histories.proofs.Sound.{Sound}
 use Rattle.histories.proofs.Standing.{free?, same_count, stay_place, rule_stands, rule_moves}

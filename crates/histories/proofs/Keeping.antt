@@ -4,11 +4,11 @@ use native.Mathlib.Decide.{ℕ_discrete}
 use Rattle.diagrams.specs.Kinds.{Kind}
 use Rattle.diagrams.specs.Layouts.{Layout}
 use Rattle.diagrams.specs.Diagrams.{Diagram, leaf, node}
-use Rattle.diagrams.specs.Places.{free, Place, to_low, to_high}
+use Rattle.diagrams.specs.Places.{free, Place}
 use Rattle.diagrams.proofs.Places.{stands_used, stands_kept}
 use Rattle.histories.specs.Tables.{Model, place, content, Live, StandsFor}
 use Rattle.histories.specs.Requests.{Call, build, read, hold, let_go, sweep, look, release, reopen, Asked, Answer}
-use Rattle.histories.specs.Steps.{Reached, PlacesStay, Gains, Counted, Swept, Does, Step}
+use Rattle.histories.specs.Steps.{Reached, to_low, to_high, PlacesStay, Gains, Counted, Swept, Does, Step}
 use Rattle.histories.specs.Histories.{Frees}
 use Rattle.histories.proofs.Standing.{same_content, stay_place}
 

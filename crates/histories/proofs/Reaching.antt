@@ -5,11 +5,12 @@ use Rattle.std.proofs.lemmas.Bool.Decides.{same_from_decides, Decides-and, Decid
 use Rattle.diagrams.specs.Kinds.{Kind}
 use Rattle.diagrams.specs.Layouts.{Layout}
 use Rattle.diagrams.specs.Sizes.{tally}
+use Rattle.diagrams.specs.Places
 use Rattle.diagrams.specs.Places.{Content, free, leaf_word, node_at}
 use Rattle.diagrams.proofs.Tallies.{tally_same, passing, tally_some}
 use Rattle.diagrams.proofs.Leading.{Root, root_reached, reached_root, leads_reached, leads_parts}
 use Rattle.histories.specs.Tables.{Model, capacity, content, count, Live, Exactly}
-use Rattle.histories.specs.Steps.{Reached, is_live, is_root, is_reached, unreached_count}
+use Rattle.histories.specs.Steps.{Reached, from_zero, from_one, from_held, to_low, to_high, is_live, is_root, is_reached, unreached_count}
 use Rattle.histories.specs.Histories.{CountsRight, ReachComputed}
 use Rattle.histories.proofs.Sound.{Sound}
 use Rattle.histories.proofs.Standing.{live_within}
@@ -25,6 +26,21 @@ leaf_free : {v : ℕ} → leaf_word v ≡ free → ⊥
 leaf_free e = let z : ◌≡◌ {A = ℕ} 0 1 = cc in omega arith
 
 module _ (m : Model) where
+  -- What is reached on a table is what is reached over the contents and counts of its places, and the other way round.
+  pub over_places : (h : ℕ) → Reached m h → Places.Reached (content m) (count m) h
+  over_places h (from_zero e) = Places.from_zero e
+  over_places h (from_one e) = Places.from_one e
+  over_places h (from_held l) = Places.from_held l
+  over_places h (to_low {g = g} r e) = Places.to_low (over_places g r) e
+  over_places h (to_high {g = g} r e) = Places.to_high (over_places g r) e
+
+  pub on_table : (h : ℕ) → Places.Reached (content m) (count m) h → Reached m h
+  on_table h (Places.from_zero e) = from_zero e
+  on_table h (Places.from_one e) = from_one e
+  on_table h (Places.from_held l) = from_held l
+  on_table h (Places.to_low {g = g} r e) = to_low (on_table g r) e
+  on_table h (Places.to_high {g = g} r e) = to_high (on_table g r) e
+
   -- The checks tell what they say.
   pub live_told : (h : ℕ) → (is_live m h ≡ true) ↔ Live m h
   live_told h = in_use (content m h)
@@ -48,10 +64,11 @@ module _ (m : Model) where
       λ t.
           let u = (tally_some (capacity m) _).0 t in
           let v = and_parts (is_root m u.0) _ u.2 in
-          leads_reached (content m) (count m) m.layout.size h u.0 v.1
-          (root_reached (content m) (count m) u.0 ((root_told u.0).0 v.0)),
+          on_table h
+          (leads_reached (content m) (count m) m.layout.size h u.0 v.1
+          (root_reached (content m) (count m) u.0 ((root_told u.0).0 v.0))),
       λ reach.
-          let u = reached_root (content m) (count m) h reach in
+          let u = reached_root (content m) (count m) h (over_places h reach) in
           let live = root_live u.0 u.1 in
           let g = sound.good u.0 live in
           let x = u.2 g.0 g.2 in

@@ -7,10 +7,10 @@ use Rattle.diagrams.specs.Kinds.{Kind}
 use Rattle.diagrams.specs.Layouts.{Layout}
 use Rattle.diagrams.specs.Diagrams.{Lawful, Diagram, Good}
 use Rattle.diagrams.specs.Tasks.{Task, Fit}
-use Rattle.diagrams.specs.Places.{Content, free, leaf_word, Place, vacant, Unshared, from_zero, from_one}
+use Rattle.diagrams.specs.Places.{Content, free, leaf_word, Place, vacant, Unshared}
 use Rattle.histories.specs.Tables.{Model, capacity, place, content, count, Live, StandsFor}
 use Rattle.histories.specs.Requests.{Call, build, read, hold, let_go, sweep, look, release, reopen, Asked, Answer}
-use Rattle.histories.specs.Steps.{Faultless, PlacesStay, EntriesStay, Gains, Counted, Swept, Needed, Worked, faults, Does, Step}
+use Rattle.histories.specs.Steps.{Faultless, PlacesStay, EntriesStay, Gains, Counted, Swept, Needed, Worked, faults, Does, Step, from_zero, from_one}
 use Rattle.histories.proofs.Sound.{Sound}
 use Rattle.histories.proofs.Standing.{free?, same_content, same_count, stay_place, stands_good}
 use Rattle.histories.proofs.Faults.{accepted_range, accepted_live}

@@ -10,7 +10,6 @@ use Rattle.diagrams.specs.Building.{shortcut, Inside, Needs}
 use Rattle.diagrams.specs.Sizes.{extent, Within, tally}
 use Rattle.diagrams.specs.Sheets.{visited, records, header, sheet}
 use Rattle.diagrams.specs.Reading.{Faulty}
-use Rattle.diagrams.specs.Places
 use Rattle.diagrams.specs.Places.{free, leaf_word, node_at, vacant, Unshared, leads}
 use Rattle.histories.specs.Stores.{Key, Forgotten}
 use Rattle.histories.specs.Builds.{Build, constant, mark, combine, restrict}
@@ -75,8 +74,12 @@ First [] f p = ⊥
 First (Q ∷ Qs) f p = Q f p ⊎ (((g q : ℕ) → ¬ Q g q) × First Qs f p)
 
 -- The places reached from 0, from 1 and from those that are held.
-abbrev pub Reached : Model → ℕ → Type 0
-Reached m = Places.Reached (content m) (count m)
+pub data Reached (m : Model) : ℕ → Type 0 where
+  from_zero : {h : ℕ} → h ≡ 0 → Reached m h
+  from_one : {h : ℕ} → h ≡ 1 → Reached m h
+  from_held : {h : ℕ} → 0 < count m h → Reached m h
+  to_low : {g l x y : ℕ} → Reached m g → content m g ≡ node_at l x y → Reached m x
+  to_high : {g l x y : ℕ} → Reached m g → content m g ≡ node_at l x y → Reached m y
 
 -- Whether a place is in use.
 abbrev pub is_live : Model → ℕ → Bool

@@ -15,7 +15,7 @@ use Rattle.histories.specs.Steps
 use Rattle.histories.specs.Steps.{wiped, Reached, Step}
 use Rattle.histories.proofs.Sound.{Sound}
 use Rattle.histories.proofs.Faults.{passes, is_due}
-use Rattle.histories.proofs.Reaching.{counts_right, count_told}
+use Rattle.histories.proofs.Reaching.{counts_right, count_told, over_places, on_table}
 use Rattle.refusals.specs.declared.refusal.Refusal.{Refusal}
 use Rattle.refusals.specs.declared.refusal.Refusal.TheVariants.{WalkTooShort}
 use Rattle.places.specs.declared.places.Places.{Places as Table}
@@ -41,13 +41,14 @@ module _ (K : Kind) (L : Plan) (f : Entries) (t : Table) where
   -- What is kept in the code is what is reached in the specification.
   kept_reached : (h : ℕ) → Kept t h → Reached m h
   kept_reached h kept =
-      subst (λ c. Places.Reached (content m) c h) (sym seen_counts)
-      (subst (λ at. Places.Reached at (λ g. (place t g).count) h) (sym (seen_all L f opened t)) kept)
+      on_table m h
+      (subst (λ c. Places.Reached (content m) c h) (sym seen_counts)
+      (subst (λ at. Places.Reached at (λ g. (place t g).count) h) (sym (seen_all L f opened t)) kept))
 
   reached_kept : (h : ℕ) → Reached m h → Kept t h
   reached_kept h reached =
       subst (λ at. Places.Reached at (λ g. (place t g).count) h) (seen_all L f opened t)
-      (subst (λ c. Places.Reached (content m) c h) seen_counts reached)
+      (subst (λ c. Places.Reached (content m) c h) seen_counts (over_places m h reached))
 
   module _ (u : Table) (g : Entries) (x : ℕ) (swept : Swept t u x) where
     -- What a sweep does to each place.

@@ -32,7 +32,7 @@ asked call walk output = record { call = call; walk = walk; output = output }
 
 -- A call that is lent no list.
 abbrev pub plain : Call → Asked
-plain call = asked call [] []
+plain call = record { call = call; walk = []; output = [] }
 
 -- A reply to such a call.
 abbrev pub replies : Reply → Answer
@@ -49,7 +49,8 @@ answered r walk output = record { reply = told r; walk = walk; output = output }
 
 -- The same of a call that is lent no list.
 abbrev pub gave : Result ℕ Refusal → Answer
-gave r = answered r [] []
+gave (Ok x) = replies (gives x)
+gave (Err e) = replies (refused (number e) (layer (number e)) 0)
 
 module _ {K S : Type 0} (kind : Kind) (entries : S → Entries) where
   -- What each call of an open table promises: on a table to which steps lead from a making, it takes the step of that call.
@@ -58,7 +59,7 @@ module _ {K S : Type 0} (kind : Kind) (entries : S → Entries) where
 
   -- The same of a call that is lent no list.
   abbrev pub OpenStep : Open K S → Call → Result ℕ Refusal → Open K S → Type 0
-  OpenStep before call answer after = OpenTakes before (plain call) (gave answer) after
+  OpenStep before call answer after = Kept kind (open_model entries before) (plain call) (gave answer) (open_model entries after)
 
   -- What each call that leaves a released table as it is promises.
   abbrev pub ReleasedTakes : Released K S → Asked → Answer → Type 0
@@ -66,7 +67,7 @@ module _ {K S : Type 0} (kind : Kind) (entries : S → Entries) where
 
   -- The same of a call that is lent no list.
   abbrev pub ReleasedStep : Released K S → Call → Result ℕ Refusal → Type 0
-  ReleasedStep table call answer = ReleasedTakes table (plain call) (gave answer)
+  ReleasedStep table call answer = Kept kind (released_model entries table) (plain call) (gave answer) (released_model entries table)
 
 -- The building call of the specification that a value of the code is.
 abbrev pub meant : Build → Builds.Build

@@ -11,14 +11,14 @@ use Rattle.diagrams.specs.Layouts.{Layout, Fruit}
 use Rattle.diagrams.specs.Diagrams.{Diagram, leaf, node, rule}
 use Rattle.diagrams.specs.Sizes.{among, Distinct, once, different, Within, itself, in_low, in_high}
 use Rattle.diagrams.specs.Sheets.{visited}
-use Rattle.diagrams.specs.Places.{Place, from_zero, from_one, from_held, to_low, to_high}
+use Rattle.diagrams.specs.Places.{Place}
 use Rattle.diagrams.proofs.Counting.{once_within, within_once, once_distinct}
 use Rattle.diagrams.proofs.Places.{stands_for_one, stands_used, one_handle}
 use Rattle.diagrams.proofs.Leading.{part_part, child_stands}
 use Rattle.diagrams.proofs.Measures.{reached}
 use Rattle.histories.specs.Tables.{Model, content, Live, StandsFor, InUse, Exactly}
 use Rattle.histories.specs.Requests.{grade, sweep, look, release, gives, done, Answer}
-use Rattle.histories.specs.Steps.{First, Reached, faults, Step}
+use Rattle.histories.specs.Steps.{First, Reached, from_zero, from_one, from_held, to_low, to_high, faults, Step}
 use Rattle.histories.proofs.Sound.{Sound}
 use Rattle.histories.proofs.Standing.{same_content}
 use Rattle.histories.proofs.Different.{exactly_one}
