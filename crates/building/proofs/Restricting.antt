@@ -3,7 +3,7 @@ use Rattle.std.proofs.Common.{◌≡◌, ℕ, zero, suc, ◌<◌, ◌≤◌, tru
 use mathlib.Core.List.{Memᴰ}
 use Prim.Native.Nat.{compare, Ordering}
 use Rattle.std.proofs.lemmas.Bool.{false≢true}
-use Rattle.std.specs.List.{AllByRecursion as All}
+use Rattle.std.specs.List.{AllByRecursion}
 use Rattle.diagrams.specs.Kinds.{Kind}
 use Rattle.diagrams.specs.Layouts.{Decomposition, shannon, positive, negative, Layout}
 use Rattle.diagrams.specs.Diagrams.{Lawful, Diagram, leaf, node, Good, make}
@@ -331,8 +331,8 @@ module _ {K : Kind} {L : Layout} {i c h l x y : ℕ} {t : Places} {f : Entries} 
         restricted (then (then w1.kept w2.kept) j.kept) j.inside (λ C.
         let calls : List Task = restrict C.b i c ∷ restrict C.a i c ∷ [] in
         let way2 = way_step (task C) (way1 C) (restrict C.b i c) (mem_high C) C.ok (fit C) (model L f2 C.phase t2) (high_done w2 C).worked in
-        let has : All (λ part. Memᴰ part calls) (smaller K L (task C))
-        = subst (All (λ part. Memᴰ part calls)) (sym (smaller_is C)) (Memᴰ.tail (Memᴰ.head refl), (Memᴰ.head refl, tt)) in
+        let has : AllByRecursion (λ part. Memᴰ part calls) (smaller K L (task C))
+        = subst (AllByRecursion (λ part. Memᴰ part calls)) (sym (smaller_is C)) (Memᴰ.tail (Memᴰ.head refl), (Memᴰ.head refl, tt)) in
         way_end (task C) f2 g C.phase t2 u (restrict_key h i c) way2 (λ part q. all_mem (λ part. Memᴰ part calls) (smaller K L (task C)) has q)
         (long C) (restrict_keyed L f C.phase t (node l C.a C.b) i c h C.sd) (absent C) r
         (put_joined K L (task C) f2 C.phase t2 way2.sound u l n1 n2 _ _

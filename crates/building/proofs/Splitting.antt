@@ -3,7 +3,7 @@ use Rattle.std.proofs.Common.{◌≡◌, ℕ, ◌+◌, ◌<◌, ◌≤◌, min, 
 use mathlib.Core.List.{Memᴰ}
 use mathlib.Core.Option.{none}
 use Rattle.std.proofs.lemmas.Bool.{false≢true}
-use Rattle.std.specs.List.{AllByRecursion as All}
+use Rattle.std.specs.List.{AllByRecursion}
 use Rattle.diagrams.specs.Kinds.{Kind}
 use Rattle.diagrams.specs.Layouts.{Decomposition, shannon, positive, negative, Layout}
 use Rattle.diagrams.specs.Diagrams.{Lawful, Diagram, leaf, node, Good, top, low, high, make}
@@ -186,7 +186,7 @@ module _ {K : Kind} {L : Layout} {o : Operation} {a b : ℕ} {t : Places} {f : E
 
   -- All smaller calls were worked, and the node of their answers was asked for.
   ended : {A : On → List Task} {u v : Places} {g h : Entries} {x y : ℕ} {r : Option ℕ} → Stage A u g
-      → ((C : On) → All (λ part. Memᴰ part (A C)) (pieces K L l o C.d C.e))
+      → ((C : On) → AllByRecursion (λ part. Memᴰ part (A C)) (pieces K L l o C.d C.e))
       → ((C : On) → Stands (holds u) (result K L (low_part K L l o C.d C.e)) x)
       → ((C : On) → Stands (holds u) (result K L (high_part K L l o C.d C.e)) y)
       → Joined L u v l x y r → (k : Key) → k ≡ combine_key o a b → Closed g h k r → Combined K L o a b t v f h r
@@ -196,7 +196,7 @@ module _ {K : Kind} {L : Layout} {o : Operation} {a b : ℕ} {t : Places} {f : E
     done = λ ok d e sd se phase sound.
         let C : On = record { ok = ok; d = d; e = e; sd = sd; se = se; phase = phase; sound = sound } in
         way_end (task C) g h phase u v (combine_key o a b) (s.way C)
-        (λ part q. all_mem (λ part. Memᴰ part (A C)) (smaller K L (task C)) (subst (All (λ part. Memᴰ part (A C))) (sym (pieces_are C)) (has C)) q)
+        (λ part q. all_mem (λ part. Memᴰ part (A C)) (smaller K L (task C)) (subst (AllByRecursion (λ part. Memᴰ part (A C))) (sym (pieces_are C)) (has C)) q)
         (long C) (combine_keyed L f phase t o d e a b sd se) (absent C) r
         (put_joined K L (task C) g phase u (s.way C).sound v l x y _ _ (low_here C) (high_here C) (made_is C) (answer_good ok 0 (task C) (fit C) (omega arith)) r j)
         (subst (λ i. Closed g h i r) keyed close);
@@ -249,7 +249,7 @@ module _ {K : Kind} {L : Layout} {o : Operation} {a b : ℕ} {t : Places} {f : E
           → Joined L t2 u l x1 x2 r → (k : Key) → k ≡ combine_key o a b → Closed f2 g k r → Combined K L o a b t u f g r
       both {t2} {u} {f2} {g} {x2} {r} w2 = ended (stepped stage1 piece w2) (λ C.
           let P : Task → Type 0 = λ part. Memᴰ part (combine o (high K L l C.d) (high K L l C.e) ∷ low_part K L l o C.d C.e ∷ []) in
-          (Memᴰ.tail (Memᴰ.head refl), (Memᴰ.head (plain C).0, subst (All P) (sym (plain C).1) tt)))
+          (Memᴰ.tail (Memᴰ.head refl), (Memᴰ.head (plain C).0, subst (AllByRecursion P) (sym (plain C).1) tt)))
           (λ C. stands_still w2.kept _ x1 (made started piece1 w1 C))
           (λ C. subst (λ p. Stands (holds t2) (result K L p) x2) (sym (plain C).0) (made stage1 piece w2 C))
 
@@ -353,7 +353,7 @@ module _ {K : Kind} {L : Layout} {o : Operation} {a b : ℕ} {t : Places} {f : E
                   (λ C. stands_still (then w2.kept (then w3.kept (then w4.kept (then w5.kept w6.kept)))) _ x1 (made started piece1 w1 C))
                   (λ C. subst (λ p. Stands (holds t6) (result K L p) x6) (sym (cross C).0) (made stage5 piece6 w6 C))
                 where
-                  has : (C : On) → All (λ part. Memᴰ part (last C ∷ calls5 C)) (pieces K L l o C.d C.e)
+                  has : (C : On) → AllByRecursion (λ part. Memᴰ part (last C ∷ calls5 C)) (pieces K L l o C.d C.e)
                   has C =
                       let P : Task → Type 0 = λ part. Memᴰ part (last C ∷ calls5 C) in
                       let at1 : P (ha·hb C) = Memᴰ.tail (Memᴰ.head refl) in
@@ -361,7 +361,7 @@ module _ {K : Kind} {L : Layout} {o : Operation} {a b : ℕ} {t : Places} {f : E
                       let at3 : P (ha·lb C) = Memᴰ.tail (Memᴰ.tail (Memᴰ.tail (Memᴰ.head refl))) in
                       let at4 : P (la·hb C) = Memᴰ.tail (Memᴰ.tail (Memᴰ.tail (Memᴰ.tail (Memᴰ.head refl)))) in
                       let at5 : P (low_part K L l o C.d C.e) = Memᴰ.tail (Memᴰ.tail (Memᴰ.tail (Memᴰ.tail (Memᴰ.tail (Memᴰ.head refl))))) in
-                      (at5, (Memᴰ.head (cross C).0, subst (All P) (sym (cross C).1) (at4, (at3, (at2, (at1, tt))))))
+                      (at5, (Memᴰ.head (cross C).0, subst (AllByRecursion P) (sym (cross C).1) (at4, (at3, (at2, (at1, tt))))))
 
 -- Whether the parts are taken crosswise, by the type of the level.
 pub crosses_by : (o : Operation) {s r : Decomposition} {yes : Bool} → yes ≡ crossing s o → s ≡ r → crossing r o ≡ yes

@@ -3,7 +3,7 @@ use mathlib.Core.Option.{Option, none, some}
 use Rattle.std.proofs.Common.{ℕ, zero, suc, ◌<◌, ◌≤◌, min, List, [], ◌∷◌, arith}
 use Prim.Native.Nat.{Ordering}
 use Prim.Native.Nat.{compare}
-use Rattle.std.specs.List.{AllByRecursion as All}
+use Rattle.std.specs.List.{AllByRecursion}
 use Rattle.std.proofs.ByRecursion.{All-weaker}
 use Rattle.diagrams.specs.Kinds.{Kind}
 use Rattle.diagrams.specs.Layouts.{Decomposition, shannon, positive, negative, Layout}
@@ -24,13 +24,13 @@ module _ {K : Kind} {L : Layout} (ok : Lawful K L) where
   top_below l (node m a b) h g = omega arith
 
   module _ (l : ℕ) (h : l ≤ L.size) (la ha lb hb : Diagram) (gla : Good K L l la) (gha : Good K L l ha) (glb : Good K L l lb) (ghb : Good K L l hb) where
-    davio_fit : All (Fit K L l) (on_the_way K L la ha lb hb positive product)
+    davio_fit : AllByRecursion (Fit K L l) (on_the_way K L la ha lb hb positive product)
     davio_fit =
         let good : (a b : Diagram) → Good K L l a → Good K L l b → Good K L l (result K L (combine product a b))
         = λ a b ga gb. answer_good ok l (combine product a b) (ga, gb) h in
         ((gla, ghb), ((gha, glb), ((good la hb gla ghb, good ha lb gha glb), ((gha, ghb), tt))))
 
-    way_fit : (t : Decomposition) (o : Operation) → All (Fit K L l) (on_the_way K L la ha lb hb t o)
+    way_fit : (t : Decomposition) (o : Operation) → AllByRecursion (Fit K L l) (on_the_way K L la ha lb hb t o)
     way_fit t sum = tt
     way_fit t difference = tt
     way_fit shannon product = tt
@@ -41,7 +41,7 @@ module _ {K : Kind} {L : Layout} (ok : Lawful K L) where
   abbrev pieces : ℕ → Operation → Diagram → Diagram → List Task
   pieces l o a b = low_part K L l o a b ∷ high_part K L l o a b ∷ on_the_way K L (low K L l a) (high K L l a) (low K L l b) (high K L l b) (L.type l) o
 
-  pieces_fit : (l : ℕ) → l < L.size → (o : Operation) (a b : Diagram) → Good K L l a → Good K L l b → All (Fit K L (suc l)) (pieces l o a b)
+  pieces_fit : (l : ℕ) → l < L.size → (o : Operation) (a b : Diagram) → Good K L l a → Good K L l b → AllByRecursion (Fit K L (suc l)) (pieces l o a b)
   pieces_fit l h o a b ga gb =
       let gla = low_good ok l a ga in
       let gha = high_good ok l a ga in
@@ -55,14 +55,14 @@ module _ {K : Kind} {L : Layout} (ok : Lawful K L) where
       )
 
   choosing_fit : (l : ℕ) → l < L.size → (a b : Diagram) → Good K L (suc l) a → Good K L (suc l) b → (t : Decomposition) (c : ℕ)
-      → All (λ part. (l < L.size) × Fit K L (suc l) part) (choosing K L t c a b)
+      → AllByRecursion (λ part. (l < L.size) × Fit K L (suc l) part) (choosing K L t c a b)
   choosing_fit l h a b ga gb shannon c = tt
   choosing_fit l h a b ga gb positive zero = tt
   choosing_fit l h a b ga gb positive (suc c) = ((h, (ga, gb)), tt)
   choosing_fit l h a b ga gb negative zero = ((h, (ga, gb)), tt)
   choosing_fit l h a b ga gb negative (suc c) = tt
 
-  deeper : (l : ℕ) → l ≤ L.size → (task : Task) → Fit K L l task → All (λ part. (l < L.size) × Fit K L (suc l) part) (smaller K L task)
+  deeper : (l : ℕ) → l ≤ L.size → (task : Task) → Fit K L l task → AllByRecursion (λ part. (l < L.size) × Fit K L (suc l) part) (smaller K L task)
   deeper l h (constant v) fit = tt
   deeper l h (mark i) fit =
       let below : l < L.size = omega (arith, valid.level_within i fit.1) in
@@ -80,7 +80,7 @@ module _ {K : Kind} {L : Layout} (ok : Lawful K L) where
       m = min (top L a) (top L b)
 
       go : (q : Option Diagram) → Right ok o a b q
-          → All (λ part. (l < L.size) × Fit K L (suc l) part) (smaller_of (way_to_combine K L o a b q))
+          → AllByRecursion (λ part. (l < L.size) × Fit K L (suc l) part) (smaller_of (way_to_combine K L o a b q))
       go (some d) r = tt
       go none r =
           let in-a = top_below l a h fit.0 in
@@ -92,7 +92,7 @@ module _ {K : Kind} {L : Layout} (ok : Lawful K L) where
       let below : l < L.size = omega arith in
       let ga : Good K L (suc l) a = good_up ok (suc l) (suc m) a (omega arith) fit.0.2 in
       let gb : Good K L (suc l) b = good_up ok (suc l) (suc m) b (omega arith) fit.0.3 in
-      let P : List Task → Type 0 = All (λ part. (l < L.size) × Fit K L (suc l) part) in
+      let P : List Task → Type 0 = AllByRecursion (λ part. (l < L.size) × Fit K L (suc l) part) in
       elim (compare m (L.level i))
       as (λ s. P (smaller_of (way_to_restrict K L m a b i c s))) [
         | Ordering.lt ↦ ((below, (ga, fit.1, fit.2)), ((below, (gb, fit.1, fit.2)), tt))

@@ -3,7 +3,7 @@ use Rattle.std.proofs.Common.{◌≡◌, ℕ, zero, suc, ◌+◌, ◌-◌, ◌*�
 use Rattle.std.proofs.lemmas.Nat.{div-mul-add, mod-mul-add, div_below, mod_below, div-add-mod'}
 use Rattle.std.proofs.lemmas.Bool.{ltb-true, ltb-false, lt-ltb, and_parts, leb-false, eqb-true, eqb-false, le-ltb, lt-leb, eq-eqb, ne_eqb, cases_Bool, or_parts, or_from, not-false, not_from_true}
 use Rattle.std.proofs.ByRecursion.{All-get_or}
-use Rattle.std.specs.List.{AllByRecursion as All}
+use Rattle.std.specs.List.{AllByRecursion}
 use Rattle.diagrams.specs.Kinds.{Kind}
 use Rattle.diagrams.specs.Layouts.{Layout}
 use Rattle.diagrams.specs.Diagrams.{Diagram, leaf, node, same, spare, top, Good}
@@ -90,7 +90,7 @@ front : (n : ℕ) (bytes : List ℕ) → n ≤ length bytes → bytes ≡ by_lev
 front n bytes h = fronts n 0 bytes (omega arith) ∙ ap (λ i. by_level n 0 (λ i. get_or bytes i 0) ++ drop i bytes) (omega arith)
 
 abbrev pub Bytes : List ℕ → Type 0
-Bytes bytes = All (λ b. b < 256) bytes
+Bytes bytes = AllByRecursion (λ b. b < 256) bytes
 
 byte : (bytes : List ℕ) → Bytes bytes → (i : ℕ) → i < length bytes → get_or bytes i 0 < 256
 byte bytes all i h = All-get_or (λ b. b < 256) bytes i 0 h all
@@ -214,7 +214,7 @@ module _ (K : Kind) (L : Layout) (limit : ℕ) (seen : List Diagram) where
     pub children : Children d seen
     pub room : length seen < limit
 
-  module _ (bytes : List ℕ) (all : Bytes bytes) (goods : All (Good K L 0) seen) (apart : Distinct seen) where
+  module _ (bytes : List ℕ) (all : Bytes bytes) (goods : AllByRecursion (Good K L 0) seen) (apart : Distinct seen) where
     abbrev what : Found
     what = by_kind (kind_of bytes) (leaf_found K L limit seen (four_at 4 bytes)) (node_found K L limit seen (get_or bytes 4 0) (two_at 5 bytes) (two_at 7 bytes)) (end_found K L limit seen (two_at 4 bytes))
 

@@ -2,7 +2,7 @@
 use Rattle.std.proofs.Common.{◌≡◌, ℕ, zero, suc, ◌+◌, ◌⊎◌, List, [], ◌∷◌, sym, refl, ap, subst, inl, inr, arith}
 use mathlib.Core.List.Memᴰ
 use mathlib.Core.List.{flat_map, Memᴰ}
-use Rattle.std.specs.List.{AllByRecursion as All}
+use Rattle.std.specs.List.{AllByRecursion}
 use Rattle.diagrams.specs.Kinds.{Kind}
 use Rattle.diagrams.specs.Layouts.{Layout}
 use Rattle.diagrams.specs.Diagrams.{Lawful, Diagram}
@@ -11,7 +11,7 @@ use Rattle.diagrams.specs.Building.{smaller, Inside, itself, deeper, Needs}
 use Rattle.diagrams.specs.Theorems.{Listed}
 use Rattle.diagrams.proofs.Deeper.{deepens}
 
-pub all_mem : {A : Type 0} (P : A → Type 0) {x : A} (xs : List A) → All P xs → Memᴰ x xs → P x
+pub all_mem : {A : Type 0} (P : A → Type 0) {x : A} (xs : List A) → AllByRecursion P xs → Memᴰ x xs → P x
 all_mem P [] all m = absurd (Memᴰ.not-nil m)
 all_mem P (y ∷ ys) all (Memᴰ.head e) = rw e all.0
 all_mem P (y ∷ ys) all (Memᴰ.tail m) = all_mem P ys all.1 m

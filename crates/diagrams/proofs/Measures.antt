@@ -4,7 +4,7 @@ use mathlib.Core.List.Memᴰ
 use Rattle.std.proofs.lemmas.Nat.{mod_below}
 use Rattle.std.proofs.lemmas.List.{append-nil, append_assoc, length-append}
 use Rattle.std.proofs.ByRecursion.{All-append}
-use Rattle.std.specs.List.{AllByRecursion as All}
+use Rattle.std.specs.List.{AllByRecursion}
 use Rattle.diagrams.specs.Kinds.{Kind}
 use Rattle.diagrams.specs.Layouts.{Decomposition, shannon, positive, negative, type_code, Layout}
 use Rattle.diagrams.specs.Diagrams.{Diagram, leaf, node, Good}
@@ -235,7 +235,7 @@ pub measured : Measured
 measured K L d g = sheet_length K L d (follow_distinct K L [] (visited d []) tt (visited_follow K L 0 d [] g tt))
 
 abbrev Small : List ℕ → Type 0
-Small = All (λ b. b < 256)
+Small = AllByRecursion (λ b. b < 256)
 
 small_two : (n : ℕ) → Small (two n)
 small_two n = (mod_below n 256 (omega arith), (mod_below (n / 256) 256 (omega arith), tt))
@@ -281,6 +281,6 @@ spelled K L ok d g =
         small_record 3 (l ∷ two (number a all) ++ two (number b all))
         (omega (arith, ok.valid.most), small_append (two (number a all)) (two (number b all)) (small_two _) (small_two _))
 
-    small_records : (all ds : List Diagram) → All (Good K L 0) ds → Small (records all ds)
+    small_records : (all ds : List Diagram) → AllByRecursion (Good K L 0) ds → Small (records all ds)
     small_records all [] h = tt
     small_records all (e ∷ es) h = small_append (record_at all e) (records all es) (small_at all e h.0) (small_records all es h.1)

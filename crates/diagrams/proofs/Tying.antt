@@ -4,7 +4,7 @@ use mathlib.Core.List.{Memᴰ}
 use mathlib.Core.Option.{Option, none, some}
 use Prim.Native.Nat.{compare, Ordering}
 use native.Mathlib.Decide.{ℕ_discrete}
-use Rattle.std.specs.List.{AllByRecursion as All}
+use Rattle.std.specs.List.{AllByRecursion}
 use Rattle.diagrams.specs.Kinds.{Kind}
 use Rattle.diagrams.specs.Layouts.{Decomposition, shannon, positive, negative, Layout}
 use Rattle.diagrams.specs.Diagrams.{Lawful, Diagram, leaf, node, same, top, low}
@@ -31,7 +31,7 @@ module _ (K : Kind) (L : Layout) where
   abbrev Ready : Task → Diagram → Type 0
   Ready task d = AtHand K L task d ⊎ ((v : ℕ) × (d ≡ leaf v)) ⊎ ((l : ℕ) × (a : Diagram) × (b : Diagram) × (d ≡ node l a b) × AtHand K L task a × AtHand K L task b)
 
-  tied : (task : Task) → All (Given task) (smaller K L task) → ((d : Diagram) (way : List Task) → split K L task ≡ short d way → Ready task d) → Tied K L task
+  tied : (task : Task) → AllByRecursion (Given task) (smaller K L task) → ((d : Diagram) (way : List Task) → split K L task ≡ short d way → Ready task d) → Tied K L task
   tied task all ready = record { operands = λ part m. all_mem (Given task) (smaller K L task) all m; shortcuts = ready }
 
   -- A diagram is its own low part at a level on which it does not stand.
@@ -54,7 +54,7 @@ module _ (K : Kind) (L : Layout) where
   -- A combination without a shortcut, from its parts at a level: given those and the answers of the calls on the way, all of them are given.
   module _ (task : Task) (la ha lb hb : Diagram) (pla : AtHand K L task la) (pha : AtHand K L task ha) (plb : AtHand K L task lb) (phb : AtHand K L task hb) where
     davio_given : ((part : Task) → Memᴰ part (on_the_way K L la ha lb hb positive product) → Memᴰ part (smaller K L task))
-        → All (Given task) (high_call K L la ha lb hb positive product ∷ on_the_way K L la ha lb hb positive product)
+        → AllByRecursion (Given task) (high_call K L la ha lb hb positive product ∷ on_the_way K L la ha lb hb positive product)
     davio_given inside =
         let p₀ = result_of (combine product la hb) (inside _ (Memᴰ.head refl)) refl in
         let p₁ = result_of (combine product ha lb) (inside _ (Memᴰ.tail (Memᴰ.head refl))) refl in
@@ -69,7 +69,7 @@ module _ (K : Kind) (L : Layout) where
 
     way_given : (t : Decomposition) (o : Operation)
         → ((part : Task) → Memᴰ part (on_the_way K L la ha lb hb t o) → Memᴰ part (smaller K L task))
-        → All (Given task) (high_call K L la ha lb hb t o ∷ on_the_way K L la ha lb hb t o)
+        → AllByRecursion (Given task) (high_call K L la ha lb hb t o ∷ on_the_way K L la ha lb hb t o)
     way_given t sum inside = (given_two task sum ha hb pha phb, tt)
     way_given t difference inside = (given_two task difference ha hb pha phb, tt)
     way_given shannon product inside = (given_two task product ha hb pha phb, tt)
@@ -102,7 +102,7 @@ module _ (K : Kind) (L : Layout) where
       quick_where product a b _ _ _ _ (inr (K.zero, refl)) (quick_where product a b _ _ _ _ (inr (K.zero, refl))
       (quick_where product a b _ _ _ _ (inl (inr refl)) (quick_where product a b _ _ _ _ (inl (inl refl)) (quick_leaves product a b a b))))
 
-  combine_given : (o : Operation) (a b : Diagram) → All (Given (combine o a b)) (smaller K L (combine o a b))
+  combine_given : (o : Operation) (a b : Diagram) → AllByRecursion (Given (combine o a b)) (smaller K L (combine o a b))
   combine_given o a b = go (quick K o a b) refl
     where
       task : Task
@@ -111,7 +111,7 @@ module _ (K : Kind) (L : Layout) where
       l : ℕ
       l = min (top L a) (top L b)
 
-      go : (q : Option Diagram) → quick K o a b ≡ q → All (Given (combine o a b)) (smaller_of (way_to_combine K L o a b q))
+      go : (q : Option Diagram) → quick K o a b ≡ q → AllByRecursion (Given (combine o a b)) (smaller_of (way_to_combine K L o a b q))
       go (some d) e = tt
       go none e =
           let inside : (part : Task) → Memᴰ part (smaller_of (way_to_combine K L o a b none)) → Memᴰ part (smaller K L (combine o a b))
@@ -156,14 +156,14 @@ module _ {K : Kind} {L : Layout} (ok : Lawful K L) where
     high_child : AtHand K L task b
     high_child = high_of (node l a b) l refl (sym (high_here ok l a b))
 
-    choosing_given : (t : Decomposition) (k : ℕ) → All (Given K L task) (choosing K L t k a b)
+    choosing_given : (t : Decomposition) (k : ℕ) → AllByRecursion (Given K L task) (choosing K L t k a b)
     choosing_given shannon k = tt
     choosing_given positive zero = tt
     choosing_given positive (suc k) = (given_two K L task sum a b low_child high_child, tt)
     choosing_given negative zero = (given_two K L task sum a b low_child high_child, tt)
     choosing_given negative (suc k) = tt
 
-    restrict_given : (s : Ordering) → All (Given K L task) (smaller_of (way_to_restrict K L l a b i c s))
+    restrict_given : (s : Ordering) → AllByRecursion (Given K L task) (smaller_of (way_to_restrict K L l a b i c s))
     restrict_given Ordering.lt = (λ d e. rw e low_child, (λ d e. rw e high_child, tt))
     restrict_given Ordering.eq = choosing_given (L.type l) c
     restrict_given Ordering.gt = tt

@@ -3,7 +3,7 @@ use Rattle.std.proofs.Common.{◌≡◌, ℕ, zero, suc, ◌+◌, ◌-◌, ◌<�
 use mathlib.Core.List.Memᴰ
 use mathlib.Core.List.{Memᴰ}
 use Rattle.std.proofs.lemmas.List.{append-nil, append_assoc, length-append, get_or_at}
-use Rattle.std.specs.List.{AllByRecursion as All}
+use Rattle.std.specs.List.{AllByRecursion}
 use Rattle.diagrams.specs.Kinds.{Kind}
 use Rattle.diagrams.specs.Layouts.{Layout}
 use Rattle.diagrams.specs.Diagrams.{Diagram, leaf, node, same, Good}
@@ -126,7 +126,7 @@ module _ (K : Kind) (L : Layout) where
       (visited_keeps b a (visited a seen) (visited_has a seen), visited_has b (visited a seen)))
 
   -- Those that follow have their children among themselves and those before.
-  pub follow_children : (s ds : List Diagram) → Follow K L s ds → All (λ e. Children e (s ++ ds)) ds
+  pub follow_children : (s ds : List Diagram) → Follow K L s ds → AllByRecursion (λ e. Children e (s ++ ds)) ds
   follow_children s [] f = tt
   follow_children s (e ∷ es) f =
       (children_more e s (e ∷ es) f.2, rw (append_assoc s (e ∷ []) es) at (follow_children (s ++ (e ∷ [])) es f.3))
@@ -136,7 +136,7 @@ module _ (K : Kind) (L : Layout) where
   follow_distinct s (e ∷ es) h f =
       rw (append_assoc s (e ∷ []) es) at (follow_distinct (s ++ (e ∷ [])) es (distinct_push s e h f.1) f.3)
 
-  pub follow_good : (s ds : List Diagram) → Follow K L s ds → All (Good K L 0) ds
+  pub follow_good : (s ds : List Diagram) → Follow K L s ds → AllByRecursion (Good K L 0) ds
   follow_good s [] f = tt
   follow_good s (e ∷ es) f = (f.0, follow_good (s ++ (e ∷ [])) es f.3)
 

@@ -3,7 +3,7 @@ use Rattle.std.proofs.Common.{◌≡◌, ℕ, zero, suc, ◌+◌, ◌-◌, ◌*�
 use Rattle.std.proofs.lemmas.Bool.{ltb-true, ltb-false, eqb-true, le-ltb, lt-ltb, eq-eqb, or_from, and_parts, and_from, not-false, not_from_true}
 use Rattle.std.proofs.ByRecursion.{All-get_or, All-drop}
 use Rattle.std.proofs.lemmas.List.{append-nil, append_assoc, length-append, get_or_append_left, drop_at, nil_from_length}
-use Rattle.std.specs.List.{AllByRecursion as All}
+use Rattle.std.specs.List.{AllByRecursion}
 use Rattle.diagrams.specs.Kinds.{Kind}
 use Rattle.diagrams.specs.Layouts.{type_code, Layout}
 use Rattle.diagrams.specs.Diagrams.{Lawful, Diagram, leaf, node, same, rule, Good}
@@ -20,7 +20,7 @@ pub record_same : (d : Diagram) (s t : List Diagram) → Children d s → record
 record_same (leaf v) s t c = refl
 record_same (node l a b) s t c = ap₂ (λ x y. record_of 3 (l ∷ two x ++ two y)) (number_more a s t c.0) (number_more b s t c.1)
 
-pub records_same : (ds s t : List Diagram) → All (λ e. Children e s) ds → records (s ++ t) ds ≡ records s ds
+pub records_same : (ds s t : List Diagram) → AllByRecursion (λ e. Children e s) ds → records (s ++ t) ds ≡ records s ds
 records_same [] s t c = refl
 records_same (d ∷ ds) s t c = ap₂ (λ xs ys. xs ++ ys) (record_same d s t c.0) (records_same ds s t c.1)
 

@@ -1,7 +1,7 @@
 -- The theorems on diagrams. Assumes nothing.
 use Rattle.std.specs.Prelude.{◌≡◌, ℕ, suc, ◌^◌, ◌<◌, ◌≤◌, ◌⊎◌, ◌↔◌, List}
 use mathlib.Core.List.{Memᴰ}
-use Rattle.std.specs.List.{AllByRecursion as All}
+use Rattle.std.specs.List.{AllByRecursion}
 use Rattle.diagrams.specs.Kinds.{Kind}
 use Rattle.diagrams.specs.Layouts.{Decomposition, Layout, Valid, type_code, type_of, laid, begin, exchange, set_type}
 use Rattle.diagrams.specs.Diagrams.{Lawful, Diagram, leaf, node, rule, Good}
@@ -30,7 +30,7 @@ Composes = (K : Kind) (L : Layout) → Lawful K L → (task : Task) → Fit K L 
 -- A smaller call stands deeper, so no more than size + 1 calls are open inside one another.
 abbrev pub Deeper : Type 0
 Deeper = (K : Kind) (L : Layout) → Lawful K L → (l : ℕ) → l ≤ L.size → (task : Task) → Fit K L l task
-    → All (λ part. (l < L.size) × Fit K L (suc l) part) (smaller K L task)
+    → AllByRecursion (λ part. (l < L.size) × Fit K L (suc l) part) (smaller K L task)
 
 -- No smaller call is left out: each operand of a smaller call is at hand, and a shortcut's answer is at hand, or a leaf, or a node whose
 -- children are at hand.

@@ -1,7 +1,7 @@
 -- The theorems on sheets. Assumes nothing.
 use Rattle.std.specs.Prelude.{◌≡◌, ℕ, ◌+◌, ◌*◌, ◌^◌, ◌<◌, ◌≤◌, ◌↔◌, List, [], ◌∷◌, ◌++◌, length}
 use mathlib.Core.List.{Memᴰ}
-use Rattle.std.specs.List.{AllByRecursion as All}
+use Rattle.std.specs.List.{AllByRecursion}
 use Rattle.diagrams.specs.Kinds.{Kind}
 use Rattle.diagrams.specs.Layouts.{Layout}
 use Rattle.diagrams.specs.Diagrams.{Lawful, Diagram, node, rule, Good}
@@ -16,7 +16,7 @@ Returns = (K : Kind) (L : Layout) (limit : ℕ) → Lawful K L → limit < 65536
 
 -- Reading accepts the sheets of good diagrams that have room, and no other bytes.
 abbrev pub Accepts : Type 0
-Accepts = (K : Kind) (L : Layout) (limit : ℕ) → Lawful K L → limit < 65536 → (bytes : List ℕ) → All (λ b. b < 256) bytes → (d : Diagram)
+Accepts = (K : Kind) (L : Layout) (limit : ℕ) → Lawful K L → limit < 65536 → (bytes : List ℕ) → AllByRecursion (λ b. b < 256) bytes → (d : Diagram)
     → (read_sheet K L limit bytes ≡ drawn d) ↔ ((bytes ≡ sheet K L d) × Good K L 0 d × (length (visited d []) ≤ limit))
 
 -- Sheets are equal where their diagrams are, and where these grade every fruit alike.
@@ -27,7 +27,7 @@ Faithful = (K : Kind) (L : Layout) → Lawful K L → (a b : Diagram) → Good K
 
 -- Each fault that reading tells is the first, and it tells it.
 abbrev pub Faults : Type 0
-Faults = (K : Kind) (L : Layout) (limit : ℕ) → Lawful K L → limit < 65536 → (bytes : List ℕ) → All (λ b. b < 256) bytes → (k place : ℕ)
+Faults = (K : Kind) (L : Layout) (limit : ℕ) → Lawful K L → limit < 65536 → (bytes : List ℕ) → AllByRecursion (λ b. b < 256) bytes → (k place : ℕ)
     → (read_sheet K L limit bytes ≡ fault k place) ↔ Faulty K L limit bytes k place
 
 -- What is written of a diagram: all that is reached from it and no more, once each, children before parents, the diagram itself last.
@@ -41,7 +41,7 @@ Measured = (K : Kind) (L : Layout) (d : Diagram) → Good K L 0 d → length (sh
 
 -- All of them are bytes.
 abbrev pub Spelled : Type 0
-Spelled = (K : Kind) (L : Layout) → Lawful K L → (d : Diagram) → Good K L 0 d → All (λ b. b < 256) (sheet K L d)
+Spelled = (K : Kind) (L : Layout) → Lawful K L → (d : Diagram) → Good K L 0 d → AllByRecursion (λ b. b < 256) (sheet K L d)
 
 -- Those of a list that are not among those seen, in order.
 abbrev pub unseen : List Diagram → List Diagram → List Diagram

@@ -1,7 +1,7 @@
 -- What it means that a fault is not there, and that it is the first. Assumes nothing.
 use Rattle.std.proofs.Common.{ℕ, ◌<◌, ◌≤◌, Bool, true, false, T, List, [], ◌∷◌, refl, inl, inr, arith}
 use native.Mathlib.Decide.{dec_lt}
-use Rattle.std.specs.List.{AllByRecursion as All}
+use Rattle.std.specs.List.{AllByRecursion}
 use Rattle.diagrams.specs.Kinds.{Kind}
 use Rattle.diagrams.specs.Layouts.{Layout}
 use Rattle.histories.specs.Builds.{Build, constant, mark, combine, restrict}
@@ -77,7 +77,7 @@ module _ (K : Kind) (L : Layout) (m : Model) (q : Asked) where
   accepted_range (restrict x i v) fl = (restricted_mark x i v fl, restricted_constant x i v fl)
 
   -- The handles that it names are live.
-  pub accepted_live : (c : Call) → Faultless (faults K L m q c) → All (Live m) (handles_of c)
+  pub accepted_live : (c : Call) → Faultless (faults K L m q c) → AllByRecursion (Live m) (handles_of c)
   accepted_live (build (constant v)) fl = tt
   accepted_live (build (mark i)) fl = tt
   accepted_live (build (combine o x y)) fl = (not_due fl.0, (not_due fl.1.0, tt))

@@ -2,7 +2,7 @@
 use Rattle.std.proofs.Common.{◌≡◌, ℕ, ◌+◌, ◌-◌, ◌<◌, ◌⊎◌, List, [], ◌∷◌, ◌++◌, length, get_or, take, drop, None, sym, refl, ap, ◌∙◌, subst, inl, inr, ⊎_elim, arith}
 use mathlib.Core.List.Memᴰ
 use mathlib.Core.List.{Memᴰ}
-use Rattle.std.specs.List.{AllByRecursion as All}
+use Rattle.std.specs.List.{AllByRecursion}
 use Rattle.std.proofs.lemmas.List.{take_more, take-append-drop}
 use Rattle.diagrams.specs.Kinds.{Kind}
 use Rattle.diagrams.specs.Layouts.{Layout}
@@ -26,7 +26,7 @@ use Rattle.reading.specs.Placing.{Filled, Crowded}
 use Rattle.reading.proofs.Placing.{wanted, Placed, stand_nth, stand_member, wanted_told, wanted_more, placed_more}
 
 -- Diagrams that all have P.
-pub all_member : (P : Diagram → Type 0) (ds : List Diagram) → All P ds → (d : Diagram) → Memᴰ d ds → P d
+pub all_member : (P : Diagram → Type 0) (ds : List Diagram) → AllByRecursion P ds → (d : Diagram) → Memᴰ d ds → P d
 all_member P [] all d q = absurd (Memᴰ.not-nil q)
 all_member P (e ∷ es) all d q = elim (Memᴰ.cases_cons q) [ inl r ↦ subst P (sym r) all.0 | inr r ↦ all_member P es all.1 d r ]
 

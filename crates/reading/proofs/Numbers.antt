@@ -1,6 +1,6 @@
 -- Faults of reading have numbers below that of a full table. Assumes nothing.
 use Rattle.std.proofs.Common.{◌≡◌, ℕ, ◌<◌, Bool, true, false, cond, eqb, List, [], ◌∷◌, length, get_or, arith}
-use Rattle.std.specs.List.{AllByRecursion as All}
+use Rattle.std.specs.List.{AllByRecursion}
 use Rattle.diagrams.specs.Kinds.{Kind}
 use Rattle.diagrams.specs.Layouts.{Layout}
 use Rattle.diagrams.specs.Diagrams.{Diagram}
@@ -14,7 +14,7 @@ by_cond : (b : Bool) (x y : Found) → Low x → Low y → Low (cond b x y)
 by_cond true x y p q = p
 by_cond false x y p q = q
 
-unless_low : (rules : List (ℕ × Bool)) (next : Found) → All (λ c. c.0 < 25) rules → Low next → Low (unless bad rules next)
+unless_low : (rules : List (ℕ × Bool)) (next : Found) → AllByRecursion (λ c. c.0 < 25) rules → Low next → Low (unless bad rules next)
 unless_low [] next all low = low
 unless_low (c ∷ cs) next all low =
     by_cond c.1 (bad c.0) (unless bad cs next) (λ k e. let same : c.0 ≡ k = cc in omega (arith, all.0)) (unless_low cs next all.1 low)

@@ -1,6 +1,6 @@
 -- Reading a sheet takes its step: the walk list is too short, the bytes break a rule, the table is full, or the sheet is taken. Assumes nothing.
 use Rattle.std.proofs.Common.{◌≡◌, ℕ, ◌<◌, ◌≤◌, List, [], length, Ok, Err, Result, sym, refl, ap, ◌∙◌, subst, ap₂, inl, inr, arith}
-use Rattle.std.specs.List.{AllByRecursion as All}
+use Rattle.std.specs.List.{AllByRecursion}
 use Rattle.diagrams.specs.Kinds.{Kind}
 use Rattle.diagrams.specs.Layouts.{Layout as Plan}
 use Rattle.diagrams.specs.Diagrams.{Lawful, Diagram}
@@ -69,7 +69,7 @@ module _ (K : Kind) (L : Plan) (ok : Lawful K L) (m : Model) (phased : m.phase �
   short_step short = unread 11 0 (inl (is_due short)) (λ e. omega arith)
 
   -- The list is long enough, and the bytes are bytes.
-  module _ (long : capacity m ≤ length walk) (bytes : All (λ b. b < 256) s) where
+  module _ (long : capacity m ≤ length walk) (bytes : AllByRecursion (λ b. b < 256) s) where
     small : capacity m < 65536
     small = omega (arith, sound.most)
 
@@ -135,7 +135,7 @@ module _ (K : Kind) (L : Plan) (ok : Lawful K L) (m : Model) (phased : m.phase �
 
 -- The same of the places of the code, by what reading answered and how it left the table.
 module _ (K : Kind) (L : Plan) (ok : Lawful K L) (f : Entries) (t : Places) (sound : Sound K L (model L f opened t)) (s walk left : List ℕ)
-    (list : left ≡ wiped t.capacity walk) (bytes : All (λ b. b < 256) s) where
+    (list : left ≡ wiped t.capacity walk) (bytes : AllByRecursion (λ b. b < 256) s) where
   room : capacity (model L f opened t) ≡ t.capacity
   room = seen_room L f opened t
 
@@ -168,7 +168,7 @@ module _ (K : Kind) (L : Plan) (ok : Lawful K L) (f : Entries) (t : Places) (sou
 -- The call of the code.
 pub took_step : {V S : Type 0} (K : Kind) (entries : S → Entries) (before after : Open V S) (s walk left : List ℕ) (r : Result ℕ TableFault)
     → Lawful K (view before.layout) → Sound K (view before.layout) (open_model entries before) → left ≡ wiped before.places.capacity walk
-    → All (λ b. b < 256) s → Took K entries before after s walk r
+    → AllByRecursion (λ b. b < 256) s → Took K entries before after s walk r
     → Step K (view before.layout) (open_model entries before) (read_asked s walk) (read_answer r left) (open_model entries after)
 took_step K entries before after s walk left r ok sound list bytes took =
     subst (λ y. Step K (view before.layout) (open_model entries before) (read_asked s walk) (read_answer r left) (model (view y) (entries after.store) opened after.places))

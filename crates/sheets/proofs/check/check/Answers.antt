@@ -6,7 +6,7 @@ use Rattle.sheets.specs.Scanned.{Suits, Complete}
 use Rattle.sheets.proofs.Scanning.{head_breaks}
 use Rattle.sheets.proofs.check.check.Given as given
 use Rattle.sheets.proofs.check.check.Goals as goal
-use Rattle.sheets.proofs.check.check.Goals.{In-ok-end}
+use Rattle.sheets.proofs.check.check.Goals.{In_ok-end}
 
 pub returns-in_err-check_head : goal.returns-in_err-check_head
 returns-in_err-check_head g c =
@@ -34,7 +34,7 @@ returns-in_err-end g c =
     }
 
 -- The sheet is read to its end.
-complete : (g : given.Over) (c : goal.In-ok-end g) (L : Layout) → Suits g.V.Value.kind L c.args.expected.head.now c.args.expected.types.now c.args.expected.limit
+complete : (g : given.Over) (c : goal.In_ok-end g) (L : Layout) → Suits g.V.Value.kind L c.args.expected.head.now c.args.expected.types.now c.args.expected.limit
     → Complete g.V.Value.kind L c.args.expected.limit c.args.bytes.now c.in_ok-end.end.place c.in_ok-end.end.count c.scan.new.list
 complete g c L suits = record {
   lawful = suits.lawful;
@@ -44,10 +44,10 @@ complete g c L suits = record {
 }
 
 pub finish-requires : goal.finish-requires
-finish-requires g c = (g.V.Value.kind, c.requires.suits.0, c.args.expected.limit, complete g (goal.at.finish-requires g c).In-ok-end c.requires.suits.0 c.requires.suits.1)
+finish-requires g c = (g.V.Value.kind, c.requires.suits.0, c.args.expected.limit, complete g (goal.at.finish-requires g c).In_ok-end c.requires.suits.0 c.requires.suits.1)
 
 pub returns : goal.returns
 returns g c = record {
-  answer = λ L suits. c.finish.ensures g.V.Value.kind L c.args.expected.limit (complete g (goal.at.returns g c).In-ok-end L suits);
+  answer = λ L suits. c.finish.ensures g.V.Value.kind L c.args.expected.limit (complete g (goal.at.returns g c).In_ok-end L suits);
   past = c.in_ok-end.ensures.past;
 }

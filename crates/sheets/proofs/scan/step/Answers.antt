@@ -8,7 +8,7 @@ use Rattle.sheets.specs.Scanned.{Suits, At}
 use Rattle.sheets.proofs.Scanning.{bytes_small, Sized, drop_set, listed, inside, near, breaks, ends, item_onto}
 use Rattle.sheets.proofs.scan.step.Given as given
 use Rattle.sheets.proofs.scan.step.Goals as goal
-use Rattle.sheets.proofs.scan.step.Goals.{In-ok-next, in-Leaf, in-Node}
+use Rattle.sheets.proofs.scan.step.Goals.{In_ok-next, in-Leaf, in-Node}
 
 pub next-requires : goal.next-requires
 next-requires g c =
@@ -49,7 +49,7 @@ overflow_cast-list g c =
     Fits-below {n = 600000} tt (near suits.lawful suits.small c.requires.reads.2 c.requires.room)
 
 -- The step onward over a leaf or node.
-onward : (g : given.Over) (c : goal.In-ok-next g) (L : Layout)
+onward : (g : given.Over) (c : goal.In_ok-next g) (L : Layout)
     → Suits g.V.Value.kind L c.args.expected.head.now c.args.expected.types.now c.args.expected.limit
     → At g.V.Value.kind L c.args.expected.limit c.args.bytes.now c.args.reached.place c.args.reached.count c.args.list.now
     → (size : ℕ) → Sized c.in_ok-next.field-0 size
@@ -65,7 +65,7 @@ pub bounds-list-reached : goal.bounds-list-reached
 bounds-list-reached g c =
     let sized : Sized c.in_ok-next.field-0 c.match-branch-2.size =
     elim c.match-branch-2.branch [ in-Leaf w ↦ rw w.in-Leaf.is w.size-is | in-Node w ↦ rw w.in-Node.is w.size-is ] in
-    omega (arith, (onward g (goal.at.bounds-list-reached g c).In-ok-next c.requires.reads.0 c.requires.reads.1 c.requires.reads.2 c.match-branch-2.size sized).0, c.requires.room)
+    omega (arith, (onward g (goal.at.bounds-list-reached g c).In_ok-next c.requires.reads.0 c.requires.reads.1 c.requires.reads.2 c.match-branch-2.size sized).0, c.requires.room)
 
 pub overflow_add-result : goal.overflow_add-result
 overflow_add-result g c =
@@ -78,7 +78,7 @@ returns g c =
     let sized : Sized c.in_ok-next.field-0 c.match-branch-2.size =
     elim c.match-branch-2.branch [ in-Leaf w ↦ rw w.in-Leaf.is w.size-is | in-Node w ↦ rw w.in-Node.is w.size-is ] in
     record {
-      reads = λ L suits at. (refl, (onward g (goal.at.returns g c).In-ok-next L suits at c.match-branch-2.size sized).1);
+      reads = λ L suits at. (refl, (onward g (goal.at.returns g c).In_ok-next L suits at c.match-branch-2.size sized).1);
       past = drop_set c.args.expected.limit c.args.reached.count c.args.reached.place c.args.list.now
-          (onward g (goal.at.returns g c).In-ok-next c.requires.reads.0 c.requires.reads.1 c.requires.reads.2 c.match-branch-2.size sized).0;
+          (onward g (goal.at.returns g c).In_ok-next c.requires.reads.0 c.requires.reads.1 c.requires.reads.2 c.match-branch-2.size sized).0;
     }
