@@ -2,12 +2,12 @@
 #![tactic(auto)]
 
 #[cfg(test)]
-mod building;
+mod building_trials;
 #[cfg(test)]
-mod grading;
+mod grading_trials;
 #[cfg(test)]
 mod keeping;
 #[cfg(test)]
 mod making;
 #[cfg(test)]
-mod reading;
+mod reading_trials;
