@@ -1,13 +1,13 @@
 -- Building a constant and a mark: each place that is given stands for a diagram that the call needs. Assumes nothing.
-use Rattle.std.proofs.Common.{◌≡◌, ℕ, ◌<◌, T, ◌⊎◌, List, [], ◌∷◌, Some, None, Option, sym, refl, ap, ◌∙◌, subst, ap₂, inl, inr, arith}
+use Rattle.std.proofs.Common.{◌≡◌, ℕ, ◌<◌, T, [], ◌∷◌, Some, None, Option, sym, refl, ap, ◌∙◌, subst, ap₂, arith}
 use mathlib.Core.List.Memᴰ
 use mathlib.Core.List.{Memᴰ}
 use Rattle.diagrams.specs.Kinds.{Kind}
 use Rattle.diagrams.specs.Layouts.{Decomposition, Layout}
 use Rattle.diagrams.specs.Diagrams.{Lawful, Diagram, leaf, node, Good}
-use Rattle.diagrams.specs.Tasks.{Task, constant, mark, Fit, result}
+use Rattle.diagrams.specs.Tasks.{Task, constant, mark, result}
 use Rattle.diagrams.specs.Building.{mark_low, mark_high, smaller, Inside, itself, deeper, Needs}
-use Rattle.diagrams.specs.Places.{Content, leaf_word, node_at, Stands}
+use Rattle.diagrams.specs.Places.{leaf_word, node_at, Stands}
 use Rattle.diagrams.proofs.Places.{one_handle}
 use Rattle.diagrams.proofs.Composing.{builds, mark_value}
 use Rattle.diagrams.proofs.Results.{answer_good}
@@ -15,11 +15,10 @@ use Rattle.histories.specs.Stores.{Entries}
 use Rattle.histories.specs.Tables.{Phase, StandsFor, Outnumber}
 use Rattle.histories.specs.Steps.{Needed}
 use Rattle.histories.proofs.Sound.{Sound}
-use Rattle.histories.proofs.Inner.{needs_good}
 use Rattle.places.specs.declared.places.Places.{Places}
 use Rattle.places.specs.Tables.{holds, Held, Given, Refused, Filling}
-use Rattle.places.proofs.Extending.{unshared, stands_still, held_still}
-use Rattle.building.specs.Work.{model, Works, Went, Brought}
+use Rattle.places.proofs.Extending.{unshared, stands_still}
+use Rattle.building.specs.Work.{model, Works, Went}
 use Rattle.building.proofs.Seeing.{seen_stands}
 use Rattle.building.proofs.Working.{own_needed}
 use Rattle.building.proofs.Toward.{Toward, toward_start, toward_given, toward_gains, toward_full}

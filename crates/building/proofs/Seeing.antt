@@ -1,19 +1,17 @@
 -- The places of the code and the table that the specification sees hold the same. Assumes nothing.
-use Rattle.std.proofs.Common.{◌≡◌, ℕ, ◌<◌, ◌≤◌, true, false, ◌⊎◌, sym, refl, ap, ◌∙◌, subst, inl, inr, ⊎_elim}
+use Rattle.std.proofs.Common.{◌≡◌, ℕ, sym, ap, ◌∙◌, subst}
 use mathlib.Core.Path.{fun_ext}
-use Rattle.std.proofs.lemmas.Bool.{cases_Bool, false≢true}
 use Rattle.diagrams.specs.Layouts.{Layout}
 use Rattle.diagrams.specs.Diagrams.{Diagram}
-use Rattle.diagrams.specs.Places.{Content, free, Place, vacant, Stands, Unshared}
+use Rattle.diagrams.specs.Places.{Place, Stands, Unshared}
 use Rattle.histories.specs.Stores.{Entries}
-use Rattle.histories.specs.Tables.{Phase, Model, capacity, place, content, count, Live, StandsFor, InUse}
+use Rattle.histories.specs.Tables.{Phase, Model, capacity, place, content, Live, StandsFor}
 use Rattle.places.specs.declared.places.Places.{Places}
-use Rattle.places.specs.Contents.{in_use}
 use Rattle.places.specs.Tables
 use Rattle.places.specs.Tables.{holds, Used, Given}
-use Rattle.places.proofs.Holding.{unused_free, free_unused, used_not_free}
+use Rattle.places.proofs.Holding.{free_unused, used_not_free}
 use Rattle.places.proofs.Listing.{list_length, list_place}
-use Rattle.places.proofs.Extending.{unshared, given_only, unused_vacant}
+use Rattle.places.proofs.Extending.{unshared}
 use Rattle.building.specs.Work.{model}
 
 module _ (L : Layout) (f : Entries) (p : Phase) (t : Places) where

@@ -1,6 +1,6 @@
 -- Work on the way: from the places t to u only diagrams with P came into use. Assumes nothing.
-use Rattle.std.proofs.Common.{◌≡◌, ℕ, ◌<◌, true, false, ◌⊎◌, sym, refl, ap, ◌∙◌, subst, inl, inr, ⊎_elim, arith}
-use Rattle.std.proofs.lemmas.Bool.{cases_Bool, false≢true}
+use Rattle.std.proofs.Common.{◌≡◌, ℕ, false, ◌⊎◌, sym, ap, ◌∙◌, subst, inl, inr, ⊎_elim, arith}
+use Rattle.std.proofs.lemmas.Bool.{cases_Bool}
 use Rattle.diagrams.specs.Kinds.{Kind}
 use Rattle.diagrams.specs.Layouts.{Layout}
 use Rattle.diagrams.specs.Diagrams.{Diagram, Good}
@@ -13,7 +13,7 @@ use Rattle.histories.proofs.Pigeons.{places_outnumber}
 use Rattle.places.specs.declared.places.Places.{Places}
 use Rattle.places.specs.Contents.{in_use}
 use Rattle.places.specs.Tables.{holds, Used, Held, Extends, Given, Refused}
-use Rattle.places.proofs.Extending.{stands_still, held_still, stays, then, given_only, unused_vacant, unshared}
+use Rattle.places.proofs.Extending.{stands_still, stays, then, given_only, unused_vacant, unshared}
 use Rattle.building.specs.Work.{model}
 use Rattle.building.proofs.Seeing.{seen_room, seen_place, seen_stands, stands_seen, seen_live, live_seen, seen_unshared}
 

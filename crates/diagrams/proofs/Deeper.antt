@@ -1,6 +1,6 @@
 -- A smaller call stands deeper. Assumes nothing.
 use mathlib.Core.Option.{Option, none, some}
-use Rattle.std.proofs.Common.{ℕ, zero, suc, ◌<◌, ◌≤◌, min, List, [], ◌∷◌, arith}
+use Rattle.std.proofs.Common.{ℕ, zero, suc, ◌<◌, ◌≤◌, min, List, ◌∷◌, arith}
 use Prim.Native.Nat.{Ordering}
 use Prim.Native.Nat.{compare}
 use Rattle.std.specs.List.{AllByRecursion}

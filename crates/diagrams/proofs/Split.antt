@@ -3,7 +3,7 @@ use Rattle.std.proofs.Common.{◌≡◌, ℕ, suc, ◌<◌, ◌≤◌, T, sym, r
 use Rattle.diagrams.specs.Kinds.{Kind}
 use Rattle.diagrams.specs.Layouts.{Decomposition, shannon, positive, negative, Layout, bit}
 use Rattle.diagrams.specs.Diagrams.{Lawful, Diagram, rule, Good, join, make}
-use Rattle.diagrams.specs.Tasks.{Operation, sum, difference, product, Task, mark, combine, act, Fit, meaning, result}
+use Rattle.diagrams.specs.Tasks.{Operation, sum, difference, product, Task, combine, act, Fit, meaning, result}
 use Rattle.diagrams.specs.Building.{crossed, high_call, low_part, high_part}
 use Rattle.diagrams.proofs.Algebra.{above, join_act}
 use Rattle.diagrams.proofs.Nodes.{rule_value, rule_make, make_good, low_good, high_good, rule_parts}

@@ -1,6 +1,6 @@
 -- The laws of the two kinds. Assumes nothing.
-use Rattle.std.proofs.Common.{◌≡◌, ℕ, zero, suc, ◌+◌, ◌-◌, ◌*◌, ◌/◌, ◌%◌, ◌^◌, ◌<◌, Bool, true, false, cond, ◌&&◌, T, ltb, sym, refl, ap, ◌∙◌, mod-lt, mul_assoc, mul_comm, add-mul, div-add-mod', mul-add, arith, lit<, ltb→lt, lt→ltb}
-use native.Mathlib.Nat.{mul-add-mod_self_right, add-mod-mod, mod-add-mod}
+use Rattle.std.proofs.Common.{◌≡◌, ℕ, zero, suc, ◌+◌, ◌*◌, ◌/◌, ◌%◌, ◌^◌, ◌<◌, Bool, true, false, cond, ◌&&◌, T, ltb, sym, refl, ap, ◌∙◌, mul_assoc, mul_comm, div-add-mod', mul-add, arith, lit<, ltb→lt, lt→ltb}
+use native.Mathlib.Nat.{mul-add-mod_self_right}
 use lib.Bits.{bit_and, bit_xor, xor_lt, and_lt, xor_assoc, xor_comm, xor_self, xor_zero_r, and_zero_r, and_comm}
 use Rattle.diagrams.specs.Kinds.{Kind, Arithmetic, Laws}
 use Rattle.diagrams.specs.TwoKinds.{guarded, bits, words, yes_no, points}

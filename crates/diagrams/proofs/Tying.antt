@@ -1,5 +1,5 @@
 -- No smaller call is left out: what a smaller call is given is at hand. Assumes nothing.
-use Rattle.std.proofs.Common.{◌≡◌, ℕ, zero, suc, min, ◌⊎◌, List, [], ◌∷◌, sym, refl, ap, ◌∙◌, subst, inl, inr, arith}
+use Rattle.std.proofs.Common.{◌≡◌, ℕ, zero, suc, min, ◌⊎◌, List, [], ◌∷◌, sym, refl, ap, subst, inl, inr, arith}
 use mathlib.Core.List.{Memᴰ}
 use mathlib.Core.Option.{Option, none, some}
 use Prim.Native.Nat.{compare, Ordering}

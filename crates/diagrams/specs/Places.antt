@@ -1,5 +1,5 @@
 -- Places, the diagram for which a handle stands, and what is reached from the handles that are kept. Assumes nothing.
-use Rattle.std.specs.Prelude.{◌≡◌, ℕ, zero, suc, ◌<◌, Bool, true, false, ◌||◌, ◌⊎◌, ◌==◌}
+use Rattle.std.specs.Prelude.{◌≡◌, ℕ, zero, suc, ◌<◌, Bool, false, ◌||◌, ◌⊎◌, ◌==◌}
 use Rattle.diagrams.specs.Diagrams.{Diagram, leaf, node}
 
 -- What a place holds: nothing, a leaf's word, or a node's level and the handles of its children.

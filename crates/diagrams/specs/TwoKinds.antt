@@ -1,5 +1,5 @@
 -- The two kinds. Assumes nothing.
-use Rattle.std.specs.Prelude.{ℕ, ◌+◌, ◌-◌, ◌*◌, ◌%◌, ◌^◌, Bool, cond, ◌&&◌, bit_and, nat_lt}
+use Rattle.std.specs.Prelude.{ℕ, ◌+◌, ◌-◌, ◌*◌, ◌%◌, ◌^◌, cond, ◌&&◌, bit_and, nat_lt}
 use Rattle.std.specs.Int.Bits.{bit_xor}
 use Rattle.diagrams.specs.Kinds.{Kind}
 

@@ -1,9 +1,9 @@
 -- The rule book: what calls and answers alone say of each handle. Assumes nothing.
-use Rattle.std.specs.Prelude.{ℕ, zero, suc, ◌+◌, ◌-◌, Bool, cond, ◌||◌, List, [], ◌∷◌, Some, None, Option, ◌==◌, nat_le, nat_lt}
+use Rattle.std.specs.Prelude.{ℕ, zero, suc, ◌+◌, ◌-◌, cond, ◌||◌, List, [], ◌∷◌, Some, None, Option, ◌==◌, nat_le, nat_lt}
 use Rattle.diagrams.specs.Kinds.{Kind}
 use Rattle.diagrams.specs.Layouts.{Layout, bit, put}
-use Rattle.diagrams.specs.Diagrams.{Diagram, rule}
-use Rattle.diagrams.specs.Tasks.{Operation, act}
+use Rattle.diagrams.specs.Diagrams.{rule}
+use Rattle.diagrams.specs.Tasks.{act}
 use Rattle.diagrams.specs.Reading.{Outcome, read_sheet, drawn, fault}
 use Rattle.histories.specs.Builds.{Build, constant, mark, combine, restrict}
 use Rattle.histories.specs.Requests.{Call, build, read, hold, let_go, sweep, look, release, reopen, Asked, Reply, gives, done, refused, accepts, Answer}

@@ -1,10 +1,10 @@
 -- Every layout is valid and every capacity in its range, and what the calls leave is what the definitions say. Assumes nothing.
-use Rattle.std.proofs.Common.{◌≡◌, ℕ, zero, suc, ◌<◌, ◌≤◌, Bool, true, false, cond, ◌&&◌, eqb, ltb, leb, ◌≢◌, ◌⊎◌, List, length, get_or, set, replicate, Ok, Err, sym, refl, ap, ◌∙◌, inl, inr, ⊎_elim, arith, lit<, get_or-set_other, get_or-set_same}
+use Rattle.std.proofs.Common.{◌≡◌, ℕ, zero, suc, ◌<◌, ◌≤◌, Bool, true, false, cond, ◌&&◌, eqb, ◌≢◌, List, length, get_or, set, replicate, Ok, sym, refl, ap, ◌∙◌, ⊎_elim, arith, lit<, get_or-set_other, get_or-set_same}
 use Rattle.std.specs.List as holes
 use Rattle.std.proofs.lemmas.List.Edits.{swapped_from_swap}
 use Rattle.std.proofs.lemmas.List.{get_or_default}
 use Rattle.std.proofs.lemmas.Bool.{cases_eq, lt-ltb, le-leb, eq-eqb, ne_eqb}
-use Rattle.diagrams.specs.Layouts.{Capacious, Decomposition, Valid, begun, swapped, exchanged, retyped, type_of, Setting, laid, begin, exchange, set_type, Layout as Plan}
+use Rattle.diagrams.specs.Layouts.{Capacious, Decomposition, Valid, begun, swapped, exchanged, retyped, type_of, laid, begin, exchange, set_type, Layout as Plan}
 use Rattle.diagrams.proofs.Layouts.{swapped_within, swapped_twice}
 use Rattle.layouts.specs.Forms.{decomposition, formed}
 use Rattle.layouts.specs.View.{arranged, view}

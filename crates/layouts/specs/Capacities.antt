@@ -1,7 +1,6 @@
 -- Capacities as the code has them. Assumes nothing.
 use Rattle.std.specs.Prelude.{ℕ, cond, ◌&&◌, Ok, Err, Result, nat_le}
 use Rattle.refusals.specs.declared.refusal.Refusal.{Refusal}
-use Rattle.refusals.specs.declared.refusal.Refusal.TheVariants as Refusal
 use Rattle.layouts.specs.declared.capacity.Capacity.{Capacity}
 
 -- The places of the capacity that is given, or the refusal.

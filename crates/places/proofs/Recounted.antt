@@ -7,7 +7,7 @@ use Rattle.diagrams.specs.Places.{Content}
 use Rattle.places.specs.declared.place.Place.{Place as Slot}
 use Rattle.places.specs.declared.places.Places.{Places}
 use Rattle.places.specs.Contents.{seen, seen_content, blank, with_count, place_at, at, in_use, leafy, deep, quiet, HeldMore, HeldLess, Idle}
-use Rattle.places.specs.Tables.{place, Used}
+use Rattle.places.specs.Tables.{Used}
 use Rattle.places.specs.Keeping.{Counted, Holding, LettingGo}
 use Rattle.places.proofs.Extending.{used_below}
 use Rattle.places.proofs.Rules.{Rules, same_table}

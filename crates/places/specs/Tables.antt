@@ -1,7 +1,7 @@
 -- What a table of places holds, and what its calls do to it. Assumes nothing.
 use Rattle.std.specs.Prelude.{◌≡◌, ℕ, ◌<◌, ◌≤◌, true, false, List, map, take, Some, None, Option, ◌≢◌}
 use Rattle.diagrams.specs.Diagrams.{Diagram}
-use Rattle.diagrams.specs.Places.{Content, free, leaf_word, Place, vacant, Stands}
+use Rattle.diagrams.specs.Places.{Content, leaf_word, Place, vacant, Stands}
 use Rattle.places.specs.declared.places.Places.{Places}
 use Rattle.places.specs.declared.saved.Saved.{Saved}
 use Rattle.places.specs.Contents.{seen, place_at, at, in_use, depth}

@@ -2,7 +2,6 @@
 use Rattle.std.specs.Prelude.{ℕ}
 use Rattle.refusals.specs.declared.refusal.Refusal.{Refusal}
 use Rattle.refusals.specs.declared.refusal.Refusal.TheVariants.{WalkTooShort, RecordCut, TableFull}
-use Rattle.refusals.specs.declared.fault.ByteFault.{ByteFault}
 use Rattle.refusals.specs.declared.fault.SheetFault.{SheetFault}
 use Rattle.refusals.specs.declared.fault.SheetFault.TheVariants.{Bytes, Broken}
 use Rattle.refusals.specs.declared.fault.TableFault.{TableFault}

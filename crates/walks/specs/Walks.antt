@@ -4,7 +4,7 @@ use mathlib.Core.List.{Memᴰ}
 use Rattle.diagrams.specs.Diagrams.{Diagram}
 use Rattle.diagrams.specs.Sizes.{Distinct, extent, tally}
 use Rattle.diagrams.specs.Sheets.{visited, number}
-use Rattle.diagrams.specs.Places.{Content, free, leaf_word, node_at, Place, vacant, Stands, Reached}
+use Rattle.diagrams.specs.Places.{Content, free, leaf_word, node_at, vacant, Stands, Reached}
 use Rattle.refusals.specs.declared.refusal.Refusal.{Refusal}
 use Rattle.refusals.specs.declared.refusal.Refusal.TheVariants.{NotLive, WalkTooShort}
 use Rattle.places.specs.declared.places.Places.{Places}

@@ -3,7 +3,7 @@ use mathlib.Core.Path.{◌≡◌, refl, sym, ap, ◌∙◌, subst}
 use mathlib.Core.List.Memᴰ
 use mathlib.Core.List.{List, [], ◌∷◌, ◌++◌, Memᴰ}
 use mathlib.Core.Logic.{inl, inr, ◌↔◌}
-use Prim.Native.Nat.{ℕ, zero, suc, ◌≤◌}
+use Prim.Native.Nat.{ℕ, suc, ◌≤◌}
 use native.Mathlib.Omega.{arith}
 use lib.ListN.{length}
 use Rattle.diagrams.specs.Kinds.{Kind}
@@ -23,7 +23,6 @@ use Rattle.histories.proofs.Sound.{Sound}
 use Rattle.histories.proofs.Standing.{same_content}
 use Rattle.histories.proofs.Different.{exactly_one}
 use Rattle.histories.proofs.Keeping.{Moves, stay_moves}
-use Rattle.histories.proofs.Reaching.{counts_right}
 use Rattle.worked.specs.Examples.{plain, sweeping}
 use Rattle.worked.proofs.Known.{Known}
 

@@ -1,5 +1,5 @@
 -- The three arrays are exchanged as the definition says. Assumes nothing.
-use Rattle.std.proofs.Common.{◌≡◌, sym, ap, ◌∙◌, arith, rules}
+use Rattle.std.proofs.Common.{sym, ap, ◌∙◌, arith, rules}
 use Rattle.diagrams.specs.Layouts.{laid}
 use Rattle.layouts.specs.View.{view}
 use Rattle.layouts.proofs.Laying.{mark_below, Exchanged, exchanged_plan, exchange_laid, still_marked, still_levelled, still_onto, still_back}

@@ -1,5 +1,5 @@
 -- The type is set on the mark's level. Assumes nothing.
-use Rattle.std.proofs.Common.{◌≡◌, length, sym, ap, ◌∙◌, arith, rules}
+use Rattle.std.proofs.Common.{sym, ap, ◌∙◌, arith, rules}
 use Rattle.diagrams.specs.Layouts.{laid}
 use Rattle.layouts.specs.View.{view}
 use Rattle.layouts.proofs.Laying.{formed_is, level_below, retyped_plan, set_type_laid}

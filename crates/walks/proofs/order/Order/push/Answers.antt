@@ -1,4 +1,4 @@
-use Rattle.std.proofs.Common.{◌≡◌, ◌<◌, length, add-one, arith, take-suc-set}
+use Rattle.std.proofs.Common.{◌<◌, length, add-one, arith, take-suc-set}
 use Rattle.walks.proofs.order.Order.push.Goals as goal
 
 pub returns : goal.returns
