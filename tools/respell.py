@@ -17,9 +17,13 @@ GOAL = re.compile(r"^(Answers|Invariants|Proof)\.antt$")
 
 
 def respelled(name):
-    """A word with dashes in snake case, a type with dashes in camel case; other names stay."""
+    """A word with dashes or humps in snake case, a type with dashes in camel case; other names stay."""
     name = name.replace("′", "'")
-    if "-" not in name or any(c in name for c in "·≢≡≤"):
+    if any(c in name for c in "·≢≡≤"):
+        return name
+    if re.fullmatch(r"[a-z]+(?:[A-Z][a-z]+)+", name):
+        return re.sub(r"[A-Z]", lambda m: "_" + m.group(0).lower(), name)
+    if "-" not in name:
         return name
     parts = name.split("-")
     if name[0].isupper():

@@ -8,7 +8,7 @@ use Rattle.journal_text.specs.declared.mistake.Mistake.TheVariants.{MissingComma
 use Rattle.journal_text.specs.declared.scan.Class.TheVariants.{Not}
 use Rattle.journal_text.specs.Scans.{within}
 use Rattle.journal_words.specs.declared.command.Line.{Line}
-use Rattle.journal_words.specs.Requests.{Request, after, answered, begun, isName, request, said}
+use Rattle.journal_words.specs.Requests.{Request, after, answered, begun, is_name, request, said}
 use Rattle.journal_words.specs.Verbs.{bindable}
 use Rattle.journal_words.specs.Words.{words}
 
@@ -22,23 +22,23 @@ abbrev pub unbound : List ℕ → List (List ℕ) → Result Asked Mistake
 unbound w ws = after (begun w) (λ v. answered (λ q. record { binds = None; request = q }) (request v ws))
 
 -- what follows `NAME =`: a command that answers a handle
-abbrev pub boundTo : List ℕ → List (List ℕ) → Result Asked Mistake
-boundTo n [] = Err MissingCommand
-boundTo n (w ∷ ws) = after (begun w) (λ v. cond (bindable v) (answered (λ q. record { binds = Some n; request = q }) (request v ws)) (Err NoHandle))
+abbrev pub bound_to : List ℕ → List (List ℕ) → Result Asked Mistake
+bound_to n [] = Err MissingCommand
+bound_to n (w ∷ ws) = after (begun w) (λ v. cond (bindable v) (answered (λ q. record { binds = Some n; request = q }) (request v ws)) (Err NoHandle))
 
 -- a line that binds a name
 abbrev pub bound : List ℕ → List (List ℕ) → Result Asked Mistake
-bound n ws = cond (isName n) (boundTo n ws) (Err BadName)
+bound n ws = cond (is_name n) (bound_to n ws) (Err BadName)
 
 -- a first word and those after it: where the second is `=`, the first is bound
-abbrev pub afterFirst : List ℕ → List (List ℕ) → Result Asked Mistake
-afterFirst w [] = unbound w []
-afterFirst w (e ∷ ws) = cond (bytes_eq e (codes "=")) (bound w ws) (unbound w (e ∷ ws))
+abbrev pub after_first : List ℕ → List (List ℕ) → Result Asked Mistake
+after_first w [] = unbound w []
+after_first w (e ∷ ws) = cond (bytes_eq e (codes "=")) (bound w ws) (unbound w (e ∷ ws))
 
 -- a line of words
 abbrev pub line_of : List (List ℕ) → Result (Option Asked) Mistake
 line_of [] = Ok None
-line_of (w ∷ ws) = answered Some (afterFirst w ws)
+line_of (w ∷ ws) = answered Some (after_first w ws)
 
 -- what stands before the first `#`
 abbrev pub uncommented : List ℕ → List ℕ
@@ -49,5 +49,5 @@ abbrev pub meaning : List ℕ → Result (Option Asked) Mistake
 meaning line = line_of (words (uncommented line))
 
 -- a line, as the name that it binds and its command
-abbrev pub lineSaid : Line → Asked
-lineSaid line = record { binds = option_map (λ x. x.now) line.binds; request = said line.command }
+abbrev pub line_said : Line → Asked
+line_said line = record { binds = option_map (λ x. x.now) line.binds; request = said line.command }

@@ -4,7 +4,7 @@ ghost use Rattle.std.specs.Option.{option_map};
 ghost use Rattle.journal_words.specs.Requests.{answered};
 ghost use Rattle.journal_words.specs.Words.{left};
 ghost use Rattle.journal.specs.Lines as lines;
-ghost use Rattle.journal.specs.Lines.{lineSaid, meaning};
+ghost use Rattle.journal.specs.Lines.{line_said, meaning};
 
 use journal_text::mistake::Mistake;
 use journal_text::scan::{Class, is_byte, run};
@@ -18,7 +18,7 @@ use journal_words::words::Words;
 // The line comes without its newline, and may hold any bytes. `NAME = COMMAND` binds a name, which
 // may also be a command's word; a command that answers no handle takes no name.
 pub fn parse(line: &[u8]) -> Result<Option<Line<'_>>, Mistake>
-    ensures { answered (option_map lineSaid) result ≡ meaning line.now }
+    ensures { answered (option_map line_said) result ≡ meaning line.now }
 {
     let (text, _) = line.split_at(run(line, Class::Not(b'#')));
     let mut words = Words { rest: text };
@@ -30,7 +30,7 @@ pub fn parse(line: &[u8]) -> Result<Option<Line<'_>>, Mistake>
 
 // The line of a first word and the words after it.
 fn after_first<'a>(first: &'a [u8], words: Words<'a>) -> Result<Line<'a>, Mistake>
-    ensures { answered lineSaid result ≡ lines.afterFirst first.now (left words.entry) }
+    ensures { answered line_said result ≡ lines.after_first first.now (left words.entry) }
 {
     let mut after = words;
     match after.next() {
@@ -41,7 +41,7 @@ fn after_first<'a>(first: &'a [u8], words: Words<'a>) -> Result<Line<'a>, Mistak
 
 // A line that binds no name.
 fn unbound<'a>(word: &[u8], words: Words<'a>) -> Result<Line<'a>, Mistake>
-    ensures { answered lineSaid result ≡ lines.unbound word.now (left words.entry) }
+    ensures { answered line_said result ≡ lines.unbound word.now (left words.entry) }
 {
     let verb = begin(word)?;
     let command = command(verb, words)?;
@@ -53,7 +53,7 @@ fn unbound<'a>(word: &[u8], words: Words<'a>) -> Result<Line<'a>, Mistake>
 
 // A line that binds a name.
 fn bound<'a>(word: &'a [u8], words: Words<'a>) -> Result<Line<'a>, Mistake>
-    ensures { answered lineSaid result ≡ lines.bound word.now (left words.entry) }
+    ensures { answered line_said result ≡ lines.bound word.now (left words.entry) }
 {
     match name(word) {
         Some(name) => bound_to(name, words),
@@ -63,7 +63,7 @@ fn bound<'a>(word: &'a [u8], words: Words<'a>) -> Result<Line<'a>, Mistake>
 
 // What follows `NAME =`.
 fn bound_to<'a>(name: &'a str, words: Words<'a>) -> Result<Line<'a>, Mistake>
-    ensures { answered lineSaid result ≡ lines.boundTo name.now (left words.entry) }
+    ensures { answered line_said result ≡ lines.bound_to name.now (left words.entry) }
 {
     let mut words = words;
     let Some(word) = words.next() else {

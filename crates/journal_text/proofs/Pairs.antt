@@ -2,7 +2,7 @@
 use Rattle.std.proofs.Common.{◌≡◌, ℕ, zero, suc, ◌+◌, ◌-◌, ◌*◌, ◌/◌, ◌<◌, ◌≤◌, true, List, [], ◌∷◌, ◌++◌, length, get_or, take, drop, is_ok, Some, None, Ok, Err, Option, Result, sym, refl, ap, ◌∙◌, subst, append_assoc, add-one, arith, Bor}
 use Rattle.std.proofs.lemmas.List.{take_all}
 use Rattle.journal_text.specs.declared.mistake.Mistake.{Mistake}
-use Rattle.journal_text.specs.Hex.{hexDigit, hexValue, before, bytes_of, Begins, digits, hexText}
+use Rattle.journal_text.specs.Hex.{hex_digit, hex_value, before, bytes_of, Begins, digits, hex_text}
 
 -- bytes before the bytes that follow
 abbrev pub follows : List ℕ → Result (List ℕ) Mistake → Result (List ℕ) Mistake
@@ -75,7 +75,7 @@ no_digits [] h = refl
 no_digits (d ∷ ds) h = absurd (omega arith)
 
 -- two digits and those after them
-pub two_digits : (ds : List ℕ) (h l : ℕ) → 2 ≤ length ds → hexValue (get_or ds 0 0) ≡ Some h → hexValue (get_or ds 1 0) ≡ Some l → (bytes_of ds ≡ before (Some (h * 16 + l)) (bytes_of (take (length ds - 2) (drop 2 ds)))) × (length (take (length ds - 2) (drop 2 ds)) < length ds)
+pub two_digits : (ds : List ℕ) (h l : ℕ) → 2 ≤ length ds → hex_value (get_or ds 0 0) ≡ Some h → hex_value (get_or ds 1 0) ≡ Some l → (bytes_of ds ≡ before (Some (h * 16 + l)) (bytes_of (take (length ds - 2) (drop 2 ds)))) × (length (take (length ds - 2) (drop 2 ds)) < length ds)
 two_digits [] h l two a b = absurd (omega arith)
 two_digits (x ∷ []) h l two a b = absurd (omega arith)
 two_digits (x ∷ y ∷ ds) h l two a b =
@@ -83,18 +83,18 @@ two_digits (x ∷ y ∷ ds) h l two a b =
     (rw (all, a, b), rw all (omega arith))
 
 -- the digits of the next byte come last
-digits_push : (bs : List ℕ) (i : ℕ) → i < length bs → digits (take (i + 1) bs) ≡ digits (take i bs) ++ (hexDigit (get_or bs i 0 / 16) ∷ hexDigit (get_or bs i 0) ∷ [])
+digits_push : (bs : List ℕ) (i : ℕ) → i < length bs → digits (take (i + 1) bs) ≡ digits (take i bs) ++ (hex_digit (get_or bs i 0 / 16) ∷ hex_digit (get_or bs i 0) ∷ [])
 digits_push [] i lt = absurd (omega arith)
 digits_push (b ∷ bs) zero lt = refl
 digits_push (b ∷ bs) (suc i) lt =
-    let more = rw add-one at (digits_push bs i (omega arith)) in rw add-one (ap (λ l. hexDigit (b / 16) ∷ hexDigit b ∷ l) more)
+    let more = rw add-one at (digits_push bs i (omega arith)) in rw add-one (ap (λ l. hex_digit (b / 16) ∷ hex_digit b ∷ l) more)
 
 -- a turn that writes a byte's two digits
-pub digits_more : (bs : List ℕ) (i h l : ℕ) (was out mid end : List ℕ) → i < length bs → out ≡ was ++ digits (take i bs) → mid ≡ out ++ (h ∷ []) → end ≡ mid ++ (l ∷ []) → h ≡ hexDigit (get_or bs i 0 / 16) → l ≡ hexDigit (get_or bs i 0) → end ≡ was ++ digits (take (i + 1) bs)
+pub digits_more : (bs : List ℕ) (i h l : ℕ) (was out mid end : List ℕ) → i < length bs → out ≡ was ++ digits (take i bs) → mid ≡ out ++ (h ∷ []) → end ≡ mid ++ (l ∷ []) → h ≡ hex_digit (get_or bs i 0 / 16) → l ≡ hex_digit (get_or bs i 0) → end ≡ was ++ digits (take (i + 1) bs)
 digits_more bs i h l was out mid end lt a b c high low =
     c ∙ ap (λ x. x ++ (l ∷ [])) (b ∙ ap (λ x. x ++ (h ∷ [])) a) ∙ append_assoc _ (h ∷ []) (l ∷ []) ∙ append_assoc was _ (h ∷ l ∷ []) ∙ ap (λ x. was ++ x) (sym (digits_push bs i lt ∙ sym (λ k. digits (take i bs) ++ (high k ∷ low k ∷ []))))
 
 -- the digits of all the bytes are their text
-pub digits_all : (bs : List ℕ) (i : ℕ) → length bs ≤ i → 0 < length bs → digits (take i bs) ≡ hexText bs
+pub digits_all : (bs : List ℕ) (i : ℕ) → length bs ≤ i → 0 < length bs → digits (take i bs) ≡ hex_text bs
 digits_all [] i h some = absurd (omega arith)
 digits_all (b ∷ bs) i h some = ap digits (take_all i (b ∷ bs) h)

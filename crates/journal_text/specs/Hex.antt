@@ -8,12 +8,12 @@ use Rattle.std.specs.Str.{bytes_eq}
 use Rattle.std.specs.Borrow.{Bor}
 
 -- the digit, in small letters, of the low four bits
-abbrev pub hexDigit : ℕ → ℕ
-hexDigit n = cond (nat_le (n % 16) 9) (48 + n % 16) (87 + n % 16)
+abbrev pub hex_digit : ℕ → ℕ
+hex_digit n = cond (nat_le (n % 16) 9) (48 + n % 16) (87 + n % 16)
 
 -- the value of a digit of either case
-abbrev pub hexValue : ℕ → Option ℕ
-hexValue d =
+abbrev pub hex_value : ℕ → Option ℕ
+hex_value d =
     cond (nat_le 48 d && nat_le d 57) (Some (d - 48))
     (cond (nat_le 97 d && nat_le d 102) (Some (d - 87))
     (cond (nat_le 65 d && nat_le d 70) (Some (d - 55)) None))
@@ -34,15 +34,15 @@ before (Some b) (Err e) = Err e
 abbrev pub bytes_of : List ℕ → Result (List ℕ) Mistake
 bytes_of [] = Ok []
 bytes_of (h ∷ []) = Err OddHex
-bytes_of (h ∷ l ∷ ds) = before (pair_of (hexValue h) (hexValue l)) (bytes_of ds)
+bytes_of (h ∷ l ∷ ds) = before (pair_of (hex_value h) (hex_value l)) (bytes_of ds)
 
 -- the digits of a hex text, of which `-` has none
-abbrev pub digitsOf : List ℕ → List ℕ
-digitsOf w = cond (bytes_eq w (45 ∷ [])) [] w
+abbrev pub digits_of : List ℕ → List ℕ
+digits_of w = cond (bytes_eq w (45 ∷ [])) [] w
 
 -- the bytes of a hex text, or the first mistake in it
-abbrev pub hexOf : List ℕ → Result (List ℕ) Mistake
-hexOf w = bytes_of (digitsOf w)
+abbrev pub hex_of : List ℕ → Result (List ℕ) Mistake
+hex_of w = bytes_of (digits_of w)
 
 -- r is the first byte of the digits ds and the digits after it, or the mistake in it
 abbrev pub Begins : List ℕ → Result (Option (ℕ × Bor (List ℕ))) Mistake → Type 0
@@ -59,9 +59,9 @@ Decoded ds (Err unread.NoMemory) = Unit {0}
 -- the digits of bytes, two for each
 abbrev pub digits : List ℕ → List ℕ
 digits [] = []
-digits (b ∷ bs) = hexDigit (b / 16) ∷ hexDigit b ∷ digits bs
+digits (b ∷ bs) = hex_digit (b / 16) ∷ hex_digit b ∷ digits bs
 
 -- the hex text of bytes, which is `-` where there are none
-abbrev pub hexText : List ℕ → List ℕ
-hexText [] = 45 ∷ []
-hexText (b ∷ bs) = digits (b ∷ bs)
+abbrev pub hex_text : List ℕ → List ℕ
+hex_text [] = 45 ∷ []
+hex_text (b ∷ bs) = digits (b ∷ bs)

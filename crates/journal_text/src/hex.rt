@@ -1,7 +1,7 @@
 // Bytes as pairs of hex digits.
 ghost use Rattle.std.specs.Prelude.{◌≡◌, true, ◌++◌, is_ok, Err, MatchResult, OnOk};
 ghost use Rattle.journal_text.specs.declared.hex.Unread.TheVariants as unread;
-ghost use Rattle.journal_text.specs.Hex.{hexDigit, hexValue, Begins, digitsOf, hexOf, Decoded, hexText};
+ghost use Rattle.journal_text.specs.Hex.{hex_digit, hex_value, Begins, digits_of, hex_of, Decoded, hex_text};
 
 use crate::mistake::Mistake;
 use crate::scan::is_byte;
@@ -32,7 +32,7 @@ impl<T: Drop> From<AllocFailed<T>> for Unread {
 
 // The digit, in small letters, of the low four bits.
 pub fn hex_digit(n: u8) -> u8
-    ensures { result ≡ hexDigit n }
+    ensures { result ≡ hex_digit n }
 {
     match n % 16 {
         low @ 0..=9 => b'0' + low,
@@ -42,7 +42,7 @@ pub fn hex_digit(n: u8) -> u8
 
 // The value of a digit of either case.
 fn hex_value(digit: u8) -> Option<u8>
-    ensures { result ≡ hexValue digit }
+    ensures { result ≡ hex_value digit }
 {
     match digit {
         b'0'..=b'9' => Some(digit - b'0'),
@@ -54,7 +54,7 @@ fn hex_value(digit: u8) -> Option<u8>
 
 // The digits of a hex text: `-` stands for none.
 fn digits(text: &[u8]) -> &[u8]
-    ensures { result.now ≡ digitsOf text.now }
+    ensures { result.now ≡ digits_of text.now }
 {
     if is_byte(text, b'-') { &[] } else { text }
 }
@@ -75,7 +75,7 @@ fn first_byte(digits: &[u8]) -> Result<Option<(u8, &[u8])>, Mistake>
 
 // Whether the text is hex of whole bytes.
 pub fn check_hex(text: &[u8]) -> Result<(), Mistake>
-    ensures { MatchResult result (λ _. is_ok (hexOf text.now) ≡ true) (λ e. hexOf text.now ≡ Err e) }
+    ensures { MatchResult result (λ _. is_ok (hex_of text.now) ≡ true) (λ e. hex_of text.now ≡ Err e) }
 {
     let mut rest = digits(text);
     while let Some((_, after)) = first_byte(rest)? {
@@ -86,7 +86,7 @@ pub fn check_hex(text: &[u8]) -> Result<(), Mistake>
 
 // The bytes of a hex text.
 pub fn unhex(heap: Global, text: &[u8]) -> Result<Vec<u8>, Unread>
-    ensures { Decoded (digitsOf text.now) result }
+    ensures { Decoded (digits_of text.now) result }
 {
     decode(heap, digits(text))
 }
@@ -106,7 +106,7 @@ fn decode(heap: Global, digits: &[u8]) -> Result<Vec<u8>, Unread>
 
 // Adds the hex text of the bytes.
 pub fn push_hex(out: &mut Vec<u8>, bytes: &[u8]) -> Result<(), AllocError>
-    ensures { OnOk result (out.new.items ≡ out.old.items ++ hexText bytes.now) }
+    ensures { OnOk result (out.new.items ≡ out.old.items ++ hex_text bytes.now) }
 {
     if bytes.is_empty() {
         out.push(b'-')?;

@@ -3,7 +3,7 @@ use Rattle.std.proofs.Common.{◌≡◌, ℕ, ◌+◌, ◌<◌, Bool, true, fals
 use Rattle.std.specs.List.{prefix_len}
 use Rattle.journal_text.specs.declared.scan.Class.TheVariants.{Blank, Solid}
 use Rattle.journal_text.specs.Scans.{within}
-use Rattle.journal_words.specs.Words.{wordsAfter, words}
+use Rattle.journal_words.specs.Words.{words_after, words}
 
 -- a run is over where it ends
 no_more : (p : ℕ → Bool) (bs : List ℕ) → prefix_len p (drop (prefix_len p bs) bs) ≡ 0
@@ -19,16 +19,16 @@ past_blanks : (bs : List ℕ) → words bs ≡ words (drop (prefix_len (within B
 past_blanks [] = refl
 past_blanks (b ∷ bs) = by (within Blank b) refl (past_blanks bs)
   where
-    by : (t : Bool) → within Blank b ≡ t → words bs ≡ words (drop (prefix_len (within Blank) bs) bs) → cond t (words bs) (wordsAfter (b ∷ []) bs) ≡ words (drop (cond t (1 + prefix_len (within Blank) bs) 0) (b ∷ bs))
+    by : (t : Bool) → within Blank b ≡ t → words bs ≡ words (drop (prefix_len (within Blank) bs) bs) → cond t (words bs) (words_after (b ∷ []) bs) ≡ words (drop (cond t (1 + prefix_len (within Blank) bs) 0) (b ∷ bs))
     by true e more = rw one-add more
     by false e more = rw e
 
 -- a word begun ends at the next blank
-word_begun : (c : ℕ) (cs bs : List ℕ) → wordsAfter (c ∷ cs) bs ≡ (c ∷ (cs ++ take (prefix_len (within Solid) bs) bs)) ∷ words (drop (prefix_len (within Solid) bs) bs)
+word_begun : (c : ℕ) (cs bs : List ℕ) → words_after (c ∷ cs) bs ≡ (c ∷ (cs ++ take (prefix_len (within Solid) bs) bs)) ∷ words (drop (prefix_len (within Solid) bs) bs)
 word_begun c cs [] = ap (λ l. (c ∷ l) ∷ []) (sym (append-nil cs))
 word_begun c cs (b ∷ bs) = by (within Blank b) refl (word_begun c (cs ++ (b ∷ [])) bs)
   where
-    by : (t : Bool) → within Blank b ≡ t → wordsAfter (c ∷ (cs ++ (b ∷ []))) bs ≡ (c ∷ ((cs ++ (b ∷ [])) ++ take (prefix_len (within Solid) bs) bs)) ∷ words (drop (prefix_len (within Solid) bs) bs) → cond t ((c ∷ cs) ∷ words bs) (wordsAfter (c ∷ (cs ++ (b ∷ []))) bs) ≡ (c ∷ (cs ++ take (cond (not t) (1 + prefix_len (within Solid) bs) 0) (b ∷ bs))) ∷ words (drop (cond (not t) (1 + prefix_len (within Solid) bs) 0) (b ∷ bs))
+    by : (t : Bool) → within Blank b ≡ t → words_after (c ∷ (cs ++ (b ∷ []))) bs ≡ (c ∷ ((cs ++ (b ∷ [])) ++ take (prefix_len (within Solid) bs) bs)) ∷ words (drop (prefix_len (within Solid) bs) bs) → cond t ((c ∷ cs) ∷ words bs) (words_after (c ∷ (cs ++ (b ∷ []))) bs) ≡ (c ∷ (cs ++ take (cond (not t) (1 + prefix_len (within Solid) bs) 0) (b ∷ bs))) ∷ words (drop (cond (not t) (1 + prefix_len (within Solid) bs) 0) (b ∷ bs))
     by true e more = rw (append-nil, e)
     by false e more = rw one-add (rw append_assoc at more)
 
@@ -37,7 +37,7 @@ first_word : (bs : List ℕ) → prefix_len (within Blank) bs ≡ 0 → 0 < leng
 first_word [] z h = absurd (omega arith)
 first_word (b ∷ bs) z h = by (within Blank b) refl z
   where
-    by : (t : Bool) → within Blank b ≡ t → cond t (1 + prefix_len (within Blank) bs) 0 ≡ 0 → cond t (words bs) (wordsAfter (b ∷ []) bs) ≡ take (cond (not t) (1 + prefix_len (within Solid) bs) 0) (b ∷ bs) ∷ words (drop (cond (not t) (1 + prefix_len (within Solid) bs) 0) (b ∷ bs))
+    by : (t : Bool) → within Blank b ≡ t → cond t (1 + prefix_len (within Blank) bs) 0 ≡ 0 → cond t (words bs) (words_after (b ∷ []) bs) ≡ take (cond (not t) (1 + prefix_len (within Solid) bs) 0) (b ∷ bs) ∷ words (drop (cond (not t) (1 + prefix_len (within Solid) bs) 0) (b ∷ bs))
     by true e z = absurd (omega arith)
     by false e z = rw one-add (word_begun b [] bs)
 

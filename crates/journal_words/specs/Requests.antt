@@ -18,10 +18,10 @@ use Rattle.journal_words.specs.declared.verb.StoreWord.{StoreWord}
 use Rattle.journal_words.specs.declared.verb.StoreWord.TheVariants as word
 use Rattle.journal_words.specs.declared.verb.Verb.{Verb}
 use Rattle.journal_words.specs.declared.verb.Verb.TheVariants as verb
-use Rattle.journal_text.specs.Hex.{hexOf}
+use Rattle.journal_text.specs.Hex.{hex_of}
 use Rattle.journal_text.specs.Numbers.{decimal}
 use Rattle.journal_text.specs.Scans.{letter, within}
-use Rattle.journal_words.specs.Verbs.{beside, verbOf, kinds, stores, lists}
+use Rattle.journal_words.specs.Verbs.{beside, verb_of, kinds, stores, lists}
 
 -- what follows on an answer; a mistake stays
 abbrev pub after : {A B : Type 0} → Result A Mistake → (A → Result B Mistake) → Result B Mistake
@@ -34,18 +34,18 @@ answered f (Ok x) = Ok (f x)
 answered f (Err e) = Err e
 
 -- a letter a-z, then letters a-z, digits and `_`
-abbrev pub isName : List ℕ → Bool
-isName [] = false
-isName (b ∷ bs) = letter b && list_all (within NameByte) (b ∷ bs)
+abbrev pub is_name : List ℕ → Bool
+is_name [] = false
+is_name (b ∷ bs) = letter b && list_all (within NameByte) (b ∷ bs)
 
 -- a word as a name
 abbrev pub name_of : List ℕ → Option (List ℕ)
-name_of w = cond (isName w) (Some w) None
+name_of w = cond (is_name w) (Some w) None
 
 -- whether the first byte is a digit
-abbrev pub beginsWithDigit : List ℕ → Bool
-beginsWithDigit [] = false
-beginsWithDigit (b ∷ bs) = within Digit b
+abbrev pub begins_with_digit : List ℕ → Bool
+begins_with_digit [] = false
+begins_with_digit (b ∷ bs) = within Digit b
 
 -- what may stand at a place among a command's operands
 pub data Slot : Type 0 where
@@ -92,7 +92,7 @@ slots verb.Show = Shown ∷ []
 
 -- a handle begins with a digit, or is a name
 abbrev pub handle : List ℕ → Result Part Mistake
-handle w = cond (beginsWithDigit w) (answered number (decimal w)) (cond (isName w) (Ok (name w)) (Err BadHandle))
+handle w = cond (begins_with_digit w) (answered number (decimal w)) (cond (is_name w) (Ok (name w)) (Err BadHandle))
 
 -- the store that a word begins, and the words after it: a lent one is followed by its length
 abbrev pub store_of : StoreWord → List (List ℕ) → Result (Part × List (List ℕ)) Mistake
@@ -105,7 +105,7 @@ store_of word.Lent (w ∷ ws) = answered (λ n. (store (stored.Lent n), ws)) (de
 abbrev pub part : Slot → List ℕ → List (List ℕ) → Result (Part × List (List ℕ)) Mistake
 part Number w ws = answered (λ n. (number n, ws)) (decimal w)
 part Handle w ws = answered (λ p. (p, ws)) (handle w)
-part Hex w ws = answered (λ _. (hex w, ws)) (hexOf w)
+part Hex w ws = answered (λ _. (hex w, ws)) (hex_of w)
 part Kind w ws = answered (λ k. (kind k, ws)) (ok_or (beside kinds w) UnknownKind)
 part Store w ws = after (ok_or (beside stores w) UnknownStore) (λ s. store_of s ws)
 part Shown w ws = answered (λ l. (list l, ws)) (ok_or (beside lists w) UnknownList)
@@ -132,12 +132,12 @@ request v ws = answered (λ ps. record { word = v; parts = ps }) (taken (slots v
 
 -- the command that a word names
 unfoldable pub begun : List ℕ → Result Verb Mistake
-begun w = ok_or (verbOf w) UnknownCommand
+begun w = ok_or (verb_of w) UnknownCommand
 
 -- a handle, as it is written
-abbrev pub operandPart : Operand → Part
-operandPart (operand.Number n) = number n
-operandPart (operand.Name w) = name w.now
+abbrev pub operand_part : Operand → Part
+operand_part (operand.Number n) = number n
+operand_part (operand.Name w) = name w.now
 
 -- a command, as its word and its operands
 abbrev pub said : Command → Request
@@ -149,17 +149,17 @@ said (command.Walk length fill) = record { word = verb.Walk; parts = number leng
 said (command.Output length fill) = record { word = verb.Output; parts = number length ∷ number fill ∷ [] }
 said (command.Constant value) = record { word = verb.Constant; parts = number value ∷ [] }
 said (command.Mark mark) = record { word = verb.Mark; parts = number mark ∷ [] }
-said (command.Sum a b) = record { word = verb.Sum; parts = operandPart a ∷ operandPart b ∷ [] }
-said (command.Difference a b) = record { word = verb.Difference; parts = operandPart a ∷ operandPart b ∷ [] }
-said (command.Product a b) = record { word = verb.Product; parts = operandPart a ∷ operandPart b ∷ [] }
-said (command.Restrict h mark constant) = record { word = verb.Restrict; parts = operandPart h ∷ number mark ∷ number constant ∷ [] }
+said (command.Sum a b) = record { word = verb.Sum; parts = operand_part a ∷ operand_part b ∷ [] }
+said (command.Difference a b) = record { word = verb.Difference; parts = operand_part a ∷ operand_part b ∷ [] }
+said (command.Product a b) = record { word = verb.Product; parts = operand_part a ∷ operand_part b ∷ [] }
+said (command.Restrict h mark constant) = record { word = verb.Restrict; parts = operand_part h ∷ number mark ∷ number constant ∷ [] }
 said (command.Read text) = record { word = verb.Read; parts = hex text.now ∷ [] }
-said (command.Hold h) = record { word = verb.Hold; parts = operandPart h ∷ [] }
-said (command.LetGo h) = record { word = verb.LetGo; parts = operandPart h ∷ [] }
+said (command.Hold h) = record { word = verb.Hold; parts = operand_part h ∷ [] }
+said (command.LetGo h) = record { word = verb.LetGo; parts = operand_part h ∷ [] }
 said command.Sweep = record { word = verb.Sweep; parts = [] }
-said (command.Size h) = record { word = verb.Size; parts = operandPart h ∷ [] }
-said (command.Write h) = record { word = verb.Write; parts = operandPart h ∷ [] }
-said (command.Grade h fruit) = record { word = verb.Grade; parts = operandPart h ∷ number fruit ∷ [] }
+said (command.Size h) = record { word = verb.Size; parts = operand_part h ∷ [] }
+said (command.Write h) = record { word = verb.Write; parts = operand_part h ∷ [] }
+said (command.Grade h fruit) = record { word = verb.Grade; parts = operand_part h ∷ number fruit ∷ [] }
 said command.Release = record { word = verb.Release; parts = [] }
 said command.Reopen = record { word = verb.Reopen; parts = [] }
 said command.ShowWalk = record { word = verb.Show; parts = list listed.Walk ∷ [] }

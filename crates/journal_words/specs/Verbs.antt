@@ -59,8 +59,8 @@ abbrev pub lists : List (List ℕ × ListName)
 lists = (codes "walk", listed.Walk) ∷ (codes "output", listed.Output) ∷ []
 
 -- the command that a word names
-abbrev pub verbOf : List ℕ → Option Verb
-verbOf w = beside verbs w
+abbrev pub verb_of : List ℕ → Option Verb
+verb_of w = beside verbs w
 
 -- the commands that answer a handle
 abbrev pub bindable : Verb → Bool

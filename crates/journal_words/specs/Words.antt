@@ -9,13 +9,13 @@ ended [] = []
 ended (b ∷ bs) = (b ∷ bs) ∷ []
 
 -- the words of a text, where the bytes of `read` belong to its first word
-abbrev pub wordsAfter : List ℕ → List ℕ → List (List ℕ)
-wordsAfter read [] = ended read
-wordsAfter read (b ∷ bs) = cond (blank b) (ended read ++ wordsAfter [] bs) (wordsAfter (read ++ (b ∷ [])) bs)
+abbrev pub words_after : List ℕ → List ℕ → List (List ℕ)
+words_after read [] = ended read
+words_after read (b ∷ bs) = cond (blank b) (ended read ++ words_after [] bs) (words_after (read ++ (b ∷ [])) bs)
 
 -- the words of a text: its longest runs of bytes that are not blank
 abbrev pub words : List ℕ → List (List ℕ)
-words bs = wordsAfter [] bs
+words bs = words_after [] bs
 
 -- the words that are still to come
 abbrev pub left : Words → List (List ℕ)

@@ -3,7 +3,7 @@ ghost use Rattle.std.specs.Prelude.{◌≡◌, List, [], ◌∷◌, MatchResult}
 ghost use Rattle.std.specs.Option.{option_map};
 ghost use Rattle.journal_text.specs.declared.mistake.Mistake.TheVariants.{MissingOperand};
 ghost use Rattle.journal_words.specs.Words.{left};
-ghost use Rattle.journal_words.specs.Requests.{Slot, Part, answered, handle, operandPart, isName, name_of};
+ghost use Rattle.journal_words.specs.Requests.{Slot, Part, answered, handle, operand_part, is_name, name_of};
 ghost use Rattle.journal_words.specs.Requests as requests;
 ghost use Rattle.journal_words.specs.Takes.{Takes, Reads};
 
@@ -28,7 +28,7 @@ pub fn name(word: &[u8]) -> Option<&str>
 }
 
 fn is_name(word: &[u8]) -> bool
-    ensures { result ≡ isName word.now }
+    ensures { result ≡ is_name word.now }
 {
     match word {
         [first, ..] => first.is_ascii_lowercase() && is_all(word, Class::NameByte),
@@ -38,7 +38,7 @@ fn is_name(word: &[u8]) -> bool
 
 // The handle that a word writes.
 fn operand(word: &[u8]) -> Result<Operand<'_>, Mistake>
-    ensures { answered operandPart result ≡ handle word.now }
+    ensures { answered operand_part result ≡ handle word.now }
 {
     if begins_with_digit(word) {
         return Ok(Operand::Number(number(word)?));
@@ -50,7 +50,7 @@ fn operand(word: &[u8]) -> Result<Operand<'_>, Mistake>
 }
 
 fn begins_with_digit(word: &[u8]) -> bool
-    ensures { result ≡ requests.beginsWithDigit word.now }
+    ensures { result ≡ requests.begins_with_digit word.now }
 {
     match word {
         [first, ..] => first.is_ascii_digit(),
@@ -73,7 +73,7 @@ impl<'a> Words<'a> {
     }
 
     fn handle(&mut self) -> Result<Operand<'a>, Mistake>
-        ensures { Takes operandPart requests.Handle self.old result self.new }
+        ensures { Takes operand_part requests.Handle self.old result self.new }
     {
         operand(self.word()?)
     }
@@ -139,7 +139,7 @@ impl<'a> Words<'a> {
     }
 
     pub fn one_handle(mut self) -> Result<Operand<'a>, Mistake>
-        ensures { Reads (λ h. operandPart h ∷ []) (requests.Handle ∷ []) self.entry result }
+        ensures { Reads (λ h. operand_part h ∷ []) (requests.Handle ∷ []) self.entry result }
     {
         let only = self.handle()?;
         self.end()?;
@@ -147,7 +147,7 @@ impl<'a> Words<'a> {
     }
 
     pub fn two_handles(mut self) -> Result<(Operand<'a>, Operand<'a>), Mistake>
-        ensures { Reads (λ p. operandPart p.0 ∷ operandPart p.1 ∷ []) (requests.Handle ∷ requests.Handle ∷ []) self.entry result }
+        ensures { Reads (λ p. operand_part p.0 ∷ operand_part p.1 ∷ []) (requests.Handle ∷ requests.Handle ∷ []) self.entry result }
     {
         let first = self.handle()?;
         let second = self.one_handle()?;
@@ -156,7 +156,7 @@ impl<'a> Words<'a> {
 
     // A handle and a fruit.
     pub fn handle_number(mut self) -> Result<(Operand<'a>, u32), Mistake>
-        ensures { Reads (λ p. operandPart p.0 ∷ requests.number p.1 ∷ []) (requests.Handle ∷ requests.Number ∷ []) self.entry result }
+        ensures { Reads (λ p. operand_part p.0 ∷ requests.number p.1 ∷ []) (requests.Handle ∷ requests.Number ∷ []) self.entry result }
     {
         let handle = self.handle()?;
         let number = self.one_number()?;
@@ -165,7 +165,7 @@ impl<'a> Words<'a> {
 
     // A handle, a mark and a constant.
     pub fn handle_two_numbers(mut self) -> Result<(Operand<'a>, u32, u32), Mistake>
-        ensures { Reads (λ p. operandPart p.0 ∷ requests.number p.1 ∷ requests.number p.2 ∷ []) (requests.Handle ∷ requests.Number ∷ requests.Number ∷ []) self.entry result }
+        ensures { Reads (λ p. operand_part p.0 ∷ requests.number p.1 ∷ requests.number p.2 ∷ []) (requests.Handle ∷ requests.Number ∷ requests.Number ∷ []) self.entry result }
     {
         let handle = self.handle()?;
         let (first, second) = self.two_numbers()?;

@@ -1,6 +1,6 @@
 // The words of a journal's language.
 ghost use Rattle.std.specs.Prelude.{◌≡◌};
-ghost use Rattle.journal_words.specs.Verbs.{Shows, beside, kinds, stores, lists, verbOf, bindable};
+ghost use Rattle.journal_words.specs.Verbs.{Shows, beside, kinds, stores, lists, verb_of, bindable};
 
 use crate::command::KindName;
 use std::str::from_utf8;
@@ -45,7 +45,7 @@ pub enum Verb {
 impl Verb {
     // The command of that name, if there is one.
     pub fn named(word: &str) -> Option<Verb>
-        ensures { result ≡ verbOf word.now }
+        ensures { result ≡ verb_of word.now }
     {
         match word {
             "layout" => Some(Verb::Layout),
