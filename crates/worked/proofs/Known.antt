@@ -32,10 +32,9 @@ use Rattle.histories.proofs.StepSound.{step_sound}
 use Rattle.worked.specs.Examples.{plain}
 use Rattle.worked.proofs.Needed.{needed, all_needed}
 
--- A sound table of layout L and capacity c: the diagrams in use are those of ds, and the handles held are those of hs.
+-- A sound table of capacity c: the diagrams in use are those of ds, and the handles held are those of hs.
 pub record Known (K : Kind) (L : Layout) (c : ℕ) (ds : List Diagram) (hs : List ℕ) (m : Model) : Type 0 where
   pub sound : Sound K L m
-  pub layout : m.layout ≡ L
   pub room : capacity m ≡ c
   pub used : (d : Diagram) → InUse m d ↔ Memᴰ d ds
   pub held : (h : ℕ) → (0 < count m h) ↔ Memᴰ h hs
@@ -45,7 +44,6 @@ module _ {K : Kind} {L : Layout} (ok : Lawful K L) where
   pub made_known : (c : ℕ) (m : Model) → Made K L c m → Known K L c (leaf K.zero ∷ leaf K.one ∷ []) [] m
   made_known c m made = record {
     sound = sound;
-    layout = made.layout;
     room = made.room;
     used = λ d. (λ u. listed d u.0 u.1, back d);
     held = λ h. (λ p. absurd (omega (arith, p, made_counts m c made h)), λ q. absurd (Memᴰ.not-nil q));
@@ -69,10 +67,9 @@ module _ {K : Kind} {L : Layout} (ok : Lawful K L) where
 
   module _ (c : ℕ) (ds : List Diagram) (hs : List ℕ) (m : Model) (known : Known K L c ds hs m) where
     -- What is known goes on where all places stay.
-    pub stays_known : (n : Model) → Sound K L n → n.layout ≡ m.layout → n.places ≡ m.places → Known K L c ds hs n
-    stays_known n sound same stay = record {
+    pub stays_known : (n : Model) → Sound K L n → n.places ≡ m.places → Known K L c ds hs n
+    stays_known n sound stay = record {
       sound = sound;
-      layout = same ∙ known.layout;
       room = ap length stay ∙ known.room;
       used = λ d. (
         λ u. (known.used d).0 (u.0, stay_moves n m (sym stay) d u.0 u.1),
@@ -103,8 +100,8 @@ module _ {K : Kind} {L : Layout} (ok : Lawful K L) where
           omega (arith, known.room, few, most, o.3)
 
       -- Diagrams that came into use.
-      pub gains_known : (n : Model) → Sound K L n → n.layout ≡ m.layout → Gains m n P → Known K L c (ds ++ ns) hs n
-      gains_known n sound same g = record { sound = sound; layout = same ∙ known.layout; room = g.room ∙ known.room; used = used; held = held }
+      pub gains_known : (n : Model) → Sound K L n → Gains m n P → Known K L c (ds ++ ns) hs n
+      gains_known n sound g = record { sound = sound; room = g.room ∙ known.room; used = used; held = held }
         where
           used : (d : Diagram) → InUse n d ↔ Memᴰ d (ds ++ ns)
           used d = (
@@ -180,7 +177,7 @@ module _ {K : Kind} {L : Layout} (ok : Lawful K L) where
                   r.does.0,
                   r.does.1.0,
                   subst (λ x. StandsFor n x r.does.0) is built.answers.1,
-                  gains_known (Needed K L (built.task ∷ [])) (needed K L task) (listed built.task same) n after step.layout gains,
+                  gains_known (Needed K L (built.task ∷ [])) (needed K L task) (listed built.task same) n after gains,
                   gains_moves m n (Needed K L (built.task ∷ [])) gains,
                 )
             | inr r ↦
@@ -201,7 +198,7 @@ module _ {K : Kind} {L : Layout} (ok : Lawful K L) where
             | inr r ↦
                 let full = first_full b task means range r.number r.byte_place r.first in (
                   r.told ∙ ap₂ (λ f p. refused f (layer f) p) full.0 full.1,
-                  stays_known n after step.layout r.places,
+                  stays_known n after r.places,
                 )
           ]
 
@@ -219,7 +216,6 @@ module _ {K : Kind} {L : Layout} (ok : Lawful K L) where
                 r.does.1.0 ∙ ap gives one,
                 record {
                   sound = step_sound m n known.sound ok (plain (hold x)) a step;
-                  layout = step.layout ∙ known.layout;
                   room = s.room ∙ known.room;
                   used = λ d. (
                     λ u. (known.used d).0 (u.0, back d u.0 u.1),
