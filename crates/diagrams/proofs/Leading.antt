@@ -7,12 +7,7 @@ use Rattle.diagrams.specs.Diagrams.{Diagram, leaf, node, Good}
 use Rattle.diagrams.specs.Sizes.{Within, itself, in_low, in_high}
 use Rattle.diagrams.specs.Places.{Content, free, leaf_word, node_at, Stands, Unshared, Reached, from_zero, from_one, from_held, to_low, to_high, some_child, leads}
 use Rattle.diagrams.proofs.Places.{one_handle}
-
--- The parts of a part are parts.
-pub part_part : (x d e : Diagram) → Within x d → Within d e → Within x e
-part_part x d e p (itself r) = subst (Within x) r p
-part_part x d (node l a b) p (in_low q) = in_low (part_part x d a p q)
-part_part x d (node l a b) p (in_high q) = in_high (part_part x d b p q)
+use Rattle.diagrams.proofs.Measures.{part_part}
 
 -- The children of a handle stand for parts of its diagram.
 pub child_stands : (at : ℕ → Content) (d : Diagram) (h l x y : ℕ) → Stands at d h → at h ≡ node_at l x y
@@ -88,11 +83,11 @@ module _ (at : ℕ → Content) where
         let u = reached_root g reach in (
           u.0,
           u.1,
-          λ d p. let v = u.2 d p in let w = (child_stands at v.0 g l h y v.1 e).0 in (w.0, w.1, part_part w.0 v.0 d w.2 v.2),
+          λ d p. let v = u.2 d p in let w = (child_stands at v.0 g l h y v.1 e).0 in (w.0, w.1, part_part w.2 v.2),
         )
     reached_root h (to_high {g = g} {l = l} {x = x} reach e) =
         let u = reached_root g reach in (
           u.0,
           u.1,
-          λ d p. let v = u.2 d p in let w = (child_stands at v.0 g l x h v.1 e).1 in (w.0, w.1, part_part w.0 v.0 d w.2 v.2),
+          λ d p. let v = u.2 d p in let w = (child_stands at v.0 g l x h v.1 e).1 in (w.0, w.1, part_part w.2 v.2),
         )

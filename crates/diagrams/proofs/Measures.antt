@@ -15,7 +15,8 @@ use Rattle.diagrams.proofs.Counting.{as_many}
 use Rattle.diagrams.proofs.Visits.{Mem, by_among, by_visited, by_leaf, visited_has, visited_keeps, visited_last, visited_follow, follow_distinct, follow_good}
 use Rattle.diagrams.proofs.Whole.{length_by_level}
 
-part_part : {x y : Diagram} {d : Diagram} → Within x y → Within y d → Within x d
+-- The parts of a part are parts.
+pub part_part : {x y : Diagram} {d : Diagram} → Within x y → Within y d → Within x d
 part_part {x} p (itself e) = subst (Within x) e p
 part_part p (in_low q) = in_low (part_part p q)
 part_part p (in_high q) = in_high (part_part p q)

@@ -14,7 +14,8 @@ use Rattle.diagrams.specs.Sheets.{visited}
 use Rattle.diagrams.specs.Places.{Place}
 use Rattle.diagrams.proofs.Counting.{once_within, within_once, once_distinct}
 use Rattle.diagrams.proofs.Places.{stands_for_one, stands_used, one_handle}
-use Rattle.diagrams.proofs.Leading.{part_part, child_stands}
+use Rattle.diagrams.proofs.Leading.{child_stands}
+use Rattle.diagrams.proofs.Measures.{part_part}
 use Rattle.diagrams.proofs.Measures.{reached}
 use Rattle.histories.specs.Tables.{Model, content, Live, StandsFor, InUse, Exactly}
 use Rattle.histories.specs.Requests.{grade, sweep, look, release, gives, done, Answer}
@@ -73,7 +74,7 @@ module _ (K : Kind) where
       ]
   kept_parts (e ∷ es) x d p q =
       elim (Memᴰ.append_cases (visited e []) q) [
-        | inl r ↦ Memᴰ.append_left (kept es) ((reached e x).1 (part_part x d e p ((reached e d).0 r)))
+        | inl r ↦ Memᴰ.append_left (kept es) ((reached e x).1 (part_part p ((reached e d).0 r)))
         | inr r ↦ Memᴰ.append_right (visited e []) (kept_parts es x d p r)
       ]
 
