@@ -1,4 +1,4 @@
-ghost use Rattle.std.specs.Prelude.{◌≡◌};
+ghost use Rattle.std.specs.Prelude.{◌≡◌, refl};
 ghost use Rattle.diagrams.specs.TwoKinds.{points};
 ghost use Rattle.diagrams.proofs.TwoKinds.{points_laws};
 
@@ -18,6 +18,12 @@ impl Value for Points {
     ghost kind = { points };
 
     ghost laws = { points_laws };
+
+    ghost CODE = { 2 };
+
+    ghost ZERO = { 0 };
+
+    ghost ONE = { 1 };
 
     fn code_byte() -> u8 {
         Self::CODE
@@ -46,4 +52,10 @@ impl Value for Points {
     fn product(a: u32, b: u32) -> u32 {
         a.wrapping_mul(b)
     }
+
+    ghost code_of_kind = { refl };
+
+    ghost zero_of_kind = { refl };
+
+    ghost one_of_kind = { refl };
 }

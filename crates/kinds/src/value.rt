@@ -1,4 +1,4 @@
-ghost use Rattle.std.specs.Prelude.{◌≡◌};
+ghost use Rattle.std.specs.Prelude.{◌≡◌, ℕ};
 ghost use Rattle.diagrams.specs.Kinds.{Kind, Laws};
 
 /// A kind of value: which words are values, and how they are added, subtracted and multiplied. An impl says which kind of the
@@ -14,6 +14,12 @@ pub trait Value {
     ghost kind: { Kind };
 
     ghost laws: { Laws kind };
+
+    ghost CODE: { ℕ };
+
+    ghost ZERO: { ℕ };
+
+    ghost ONE: { ℕ };
 
     // Code that serves every kind knows nothing of an impl's constants. So each constant is read by a method, whose contract says
     // what it is and whose body is the constant.
@@ -42,4 +48,10 @@ pub trait Value {
     /// The product of two values; zero where a word is no value.
     fn product(a: u32, b: u32) -> u32
         ensures { result ≡ kind.product a b };
+
+    ghost code_of_kind: { CODE ≡ kind.code };
+
+    ghost zero_of_kind: { ZERO ≡ kind.zero };
+
+    ghost one_of_kind: { ONE ≡ kind.one };
 }

@@ -1,4 +1,4 @@
-ghost use Rattle.std.specs.Prelude.{◌≡◌};
+ghost use Rattle.std.specs.Prelude.{◌≡◌, refl};
 ghost use Rattle.diagrams.specs.TwoKinds.{yes_no};
 ghost use Rattle.diagrams.proofs.TwoKinds.{yes_no_laws};
 
@@ -18,6 +18,12 @@ impl Value for YesNo {
     ghost kind = { yes_no };
 
     ghost laws = { yes_no_laws };
+
+    ghost CODE = { 1 };
+
+    ghost ZERO = { 0 };
+
+    ghost ONE = { 1 };
 
     fn code_byte() -> u8 {
         Self::CODE
@@ -55,4 +61,10 @@ impl Value for YesNo {
             Self::zero_word()
         }
     }
+
+    ghost code_of_kind = { refl };
+
+    ghost zero_of_kind = { refl };
+
+    ghost one_of_kind = { refl };
 }
