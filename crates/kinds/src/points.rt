@@ -15,27 +15,15 @@ impl Value for Points {
 
     const ONE: u32 = 1;
 
-    ghost kind = { points };
-
-    ghost laws = { points_laws };
-
     ghost CODE = { 2 };
 
     ghost ZERO = { 0 };
 
     ghost ONE = { 1 };
 
-    fn code_byte() -> u8 {
-        Self::CODE
-    }
+    ghost kind = { points };
 
-    fn zero_word() -> u32 {
-        Self::ZERO
-    }
-
-    fn one_word() -> u32 {
-        Self::ONE
-    }
+    ghost laws = { points_laws };
 
     fn is_value(_word: u32) -> bool {
         true

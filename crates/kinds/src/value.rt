@@ -11,27 +11,15 @@ pub trait Value {
     /// The word that is neutral for the product.
     const ONE: u32;
 
-    ghost kind: { Kind };
-
-    ghost laws: { Laws kind };
-
     ghost CODE: { ℕ };
 
     ghost ZERO: { ℕ };
 
     ghost ONE: { ℕ };
 
-    // Code that serves every kind knows nothing of an impl's constants. So each constant is read by a method, whose contract says
-    // what it is and whose body is the constant.
+    ghost kind: { Kind };
 
-    fn code_byte() -> u8
-        ensures { result ≡ kind.code };
-
-    fn zero_word() -> u32
-        ensures { result ≡ kind.zero };
-
-    fn one_word() -> u32
-        ensures { result ≡ kind.one };
+    ghost laws: { Laws kind };
 
     /// Whether a word is a value of this kind.
     fn is_value(word: u32) -> bool

@@ -15,27 +15,15 @@ impl Value for YesNo {
 
     const ONE: u32 = 1;
 
-    ghost kind = { yes_no };
-
-    ghost laws = { yes_no_laws };
-
     ghost CODE = { 1 };
 
     ghost ZERO = { 0 };
 
     ghost ONE = { 1 };
 
-    fn code_byte() -> u8 {
-        Self::CODE
-    }
+    ghost kind = { yes_no };
 
-    fn zero_word() -> u32 {
-        Self::ZERO
-    }
-
-    fn one_word() -> u32 {
-        Self::ONE
-    }
+    ghost laws = { yes_no_laws };
 
     fn is_value(word: u32) -> bool {
         word < 2
@@ -45,7 +33,7 @@ impl Value for YesNo {
         if Self::is_value(a) && Self::is_value(b) {
             a ^ b
         } else {
-            Self::zero_word()
+            Self::ZERO
         }
     }
 
@@ -58,7 +46,7 @@ impl Value for YesNo {
         if Self::is_value(a) && Self::is_value(b) {
             a & b
         } else {
-            Self::zero_word()
+            Self::ZERO
         }
     }
 
