@@ -1,5 +1,5 @@
 -- Every layout is valid and every capacity in its range, and what the calls leave is what the definitions say. Assumes nothing.
-use Rattle.std.proofs.Common.{◌≡◌, ℕ, zero, suc, ◌<◌, ◌≤◌, Bool, true, false, cond, ◌&&◌, eqb, ◌≢◌, List, length, get_or, set, replicate, Ok, sym, refl, ap, ◌∙◌, ⊎_elim, arith, lit<, get_or-set_other, get_or-set_same}
+use Rattle.std.proofs.Common.{◌≡◌, ℕ, zero, suc, ◌<◌, ◌≤◌, Bool, true, false, cond, ◌&&◌, eqb, ◌≢◌, List, length, get_or, set, Ok, sym, ap, ◌∙◌, ⊎_elim, arith, lit<, get_or-set_other, get_or-set_same}
 use Rattle.std.specs.List as holes
 use Rattle.std.proofs.lemmas.List.Edits.{swapped_from_swap}
 use Rattle.std.proofs.lemmas.List.{get_or_default}

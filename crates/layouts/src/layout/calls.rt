@@ -105,20 +105,12 @@ impl Layout {
 fn plain_levels() -> [Level; 32]
     ensures { (l : ℕ) → slice_index_or result l (plain l) ≡ plain l }
 {
-    array::from_fn(
-        |level: usize| -> Level
-            requires { level < 32 }
-        { Level::plain(level as u8) },
-    )
+    array::from_fn(|level| Level::plain(level as u8))
 }
 
 // Marks on the levels of their own numbers.
 fn plain_places() -> [u8; 32]
     ensures { (i : ℕ) → level_of result i ≡ i }
 {
-    array::from_fn(
-        |mark: usize| -> u8
-            requires { mark < 32 }
-        { mark as u8 },
-    )
+    array::from_fn(|mark| mark as u8)
 }
