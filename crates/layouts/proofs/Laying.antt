@@ -1,9 +1,8 @@
 -- Every layout is valid and every capacity in its range, and what the calls leave is what the definitions say. Assumes nothing.
 use Rattle.std.proofs.Common.{◌≡◌, ℕ, zero, suc, ◌<◌, ◌≤◌, Bool, true, false, cond, ◌&&◌, eqb, ◌≢◌, List, length, get_or, set, Ok, sym, ap, ◌∙◌, ⊎_elim, arith, lit<, get_or-set_other, get_or-set_same}
-use Rattle.std.specs.List as holes
-use Rattle.std.proofs.lemmas.List.Edits.{swapped_from_swap}
-use Rattle.std.proofs.lemmas.List.{get_or_default}
-use Rattle.std.proofs.lemmas.Bool.{cases_eq, lt-ltb, le-leb, eq-eqb, ne_eqb}
+use Rattle.std.specs.List.{SwappedAt}
+use Rattle.std.proofs.lemmas.List.{get_or_default, get_or_past}
+use Rattle.std.proofs.lemmas.Bool.{cases_eq, cases_lt, lt-ltb, le-leb, eq-eqb, ne_eqb}
 use Rattle.diagrams.specs.Layouts.{Capacious, Decomposition, Valid, begun, swapped, exchanged, retyped, type_of, laid, begin, exchange, set_type, Layout as Plan}
 use Rattle.diagrams.proofs.Layouts.{swapped_within, swapped_twice}
 use Rattle.layouts.specs.Forms.{decomposition, formed}
@@ -29,6 +28,9 @@ pub capacity_within : (c : Capacity) → Capacious c.places
 capacity_within c = (c.least, c.most)
 
 -- Beginning.
+pub read_anywhere : {X : Type 0} (f : ℕ → X) (xs : List X) → ((l : ℕ) → l < length xs → get_or xs l (f l) ≡ f l) → (l : ℕ) → get_or xs l (f l) ≡ f l
+read_anywhere f xs e l = ⊎_elim (e l) (get_or_past xs l (f l)) (cases_lt l (length xs))
+
 pub begun_plan : (n : ℕ) (levels : List Level) (places : List ℕ) → ((l : ℕ) → get_or levels l (plain l) ≡ plain l) → ((i : ℕ) → level_of places i ≡ i)
     → arranged n levels places ≡ begun n
 begun_plan n levels places p q = λ i. record { size = n; mark = λ l. (p l i).mark; level = λ k. q k i; type = λ l. decomposition (p l i).form }
@@ -57,22 +59,16 @@ swapped_other : (a b k : ℕ) → k ≢ a → k ≢ b → swapped a b k ≡ k
 swapped_other a b k p q = grind arith
 
 -- Elements exchanged, read at a default that goes by the place.
-module _ {X : Type 0} (f : ℕ → X) (xs ys : List X) (a b : ℕ) (p : a < length xs) (q : b < length xs) (e : ys ≡ holes.swap xs a b) where
-  first_read : get_or ys a (f a) ≡ get_or xs b (f b)
-  first_read = (swapped_from_swap xs ys a b (f a) p q e).0 ∙ get_or_default xs b (f a) (f b) q
-
-  second_read : get_or ys b (f b) ≡ get_or xs a (f a)
-  second_read = (swapped_from_swap xs ys a b (f b) p q e).1 ∙ get_or_default xs a (f b) (f a) p
-
-  read_swapped : (k : ℕ) → get_or ys k (f k) ≡ get_or xs (swapped a b k) (f (swapped a b k))
-  read_swapped k =
-      let before : ℕ → X = λ k. get_or xs k (f k) in
-      let after : ℕ → X = λ k. get_or ys k (f k) in
-      ⊎_elim (λ h. ap after h ∙ first_read ∙ sym (ap before (ap (swapped a b) h ∙ swapped_first a b)))
-      (λ h. ⊎_elim (λ j. ap after j ∙ second_read ∙ sym (ap before (ap (swapped a b) j ∙ swapped_second a b)))
-      (λ j. (swapped_from_swap xs ys a b (f k) p q e).2 k h j ∙ sym (ap before (swapped_other a b k h j)))
-      (cases_eq k b))
-      (cases_eq k a)
+read_swapped : {X : Type 0} (f : ℕ → X) (xs ys : List X) (a b : ℕ) → a < length xs → b < length xs → SwappedAt xs ys a b
+    → (k : ℕ) → get_or ys k (f k) ≡ get_or xs (swapped a b k) (f (swapped a b k))
+read_swapped {X} f xs ys a b p q e k =
+    let before : ℕ → X = λ k. get_or xs k (f k) in
+    let after : ℕ → X = λ k. get_or ys k (f k) in
+    ⊎_elim (λ h. ap after h ∙ e.0 (f a) ∙ get_or_default xs b (f a) (f b) q ∙ sym (ap before (ap (swapped a b) h ∙ swapped_first a b)))
+    (λ h. ⊎_elim (λ j. ap after j ∙ e.1 (f b) ∙ get_or_default xs a (f b) (f a) p ∙ sym (ap before (ap (swapped a b) j ∙ swapped_second a b)))
+    (λ j. e.2 k (f k) h j ∙ sym (ap before (swapped_other a b k h j)))
+    (cases_eq k b))
+    (cases_eq k a)
 
 -- Marks exchanged before their levels are read, or the levels after.
 level_swapped : (y : Layout) (a b i : ℕ) → (view y).level (swapped ((view y).mark a) ((view y).mark b) i) ≡ swapped a b ((view y).level i)
@@ -102,8 +98,8 @@ pub record Exchanged (y : Layout) (a b : ℕ) (levels : List Level) (places : Li
   pub second : b < y.size
   pub wide_levels : length y.levels ≡ 32
   pub wide_places : length y.places ≡ 32
-  pub levels_are : levels ≡ holes.swap y.levels a b
-  pub places_are : places ≡ holes.swap y.places ((view y).mark a) ((view y).mark b)
+  pub levels_are : SwappedAt y.levels levels a b
+  pub places_are : SwappedAt y.places places ((view y).mark a) ((view y).mark b)
 
 module _ (y : Layout) (a b : ℕ) (levels : List Level) (places : List ℕ) (x : Exchanged y a b levels places) where
   stands : (k : ℕ) → get_or levels k (plain k) ≡ get_or y.levels (swapped a b k) (plain (swapped a b k))

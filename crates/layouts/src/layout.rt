@@ -6,7 +6,7 @@ use crate::level::Level;
 mod calls;
 
 /// Which mark stands on each level, with which type. Levels and marks at or past the size stand for themselves.
-#[derive(Clone, Copy)]
+#[derive(Clone, Copy, Debug, PartialEq, Eq)]
 pub struct Layout {
     size: u8,
     /// What stands on each level.

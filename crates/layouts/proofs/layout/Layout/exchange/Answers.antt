@@ -1,6 +1,6 @@
 -- The levels and the places are exchanged as the definition says. Assumes nothing.
-use Rattle.std.proofs.Common.{sym, ap, ap₂, ◌∙◌, arith}
-use Rattle.std.specs.List.{swap}
+use Rattle.std.proofs.Common.{sym, ap, subst₂, ◌∙◌, arith}
+use Rattle.std.specs.List.{SwappedAt}
 use Rattle.diagrams.specs.Layouts.{laid}
 use Rattle.layouts.specs.View.{view}
 use Rattle.layouts.proofs.Laying.{mark_read, mark_below, Exchanged, exchanged_plan, exchange_laid, still_marked, still_levelled, still_onto, still_back}
@@ -23,8 +23,9 @@ moved c =
       second = omega arith;
       wide_levels = omega arith;
       wide_places = omega arith;
-      levels_are = c.swap-2.ensures.after;
-      places_are = c.swap.ensures.after ∙ ap₂ (swap y.places) (mark_read y c.args.a _ (omega arith)) (mark_read y c.args.b _ (omega arith));
+      levels_are = c.swap-2.ensures.by_index;
+      places_are =
+          subst₂ (SwappedAt y.places c.swap.new.self) (mark_read y c.args.a _ (omega arith)) (mark_read y c.args.b _ (omega arith)) c.swap.ensures.by_index;
     }
 
 pub invariant_of-self : goal.invariant_of-self

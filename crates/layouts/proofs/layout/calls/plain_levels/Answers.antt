@@ -1,11 +1,10 @@
--- Each is made to stand for itself, and past the array the default does. Assumes nothing.
-use Rattle.std.proofs.Common.{⊎_elim, arith, rules}
-use Rattle.std.proofs.lemmas.List.{get_or_past}
-use Rattle.std.proofs.lemmas.Bool.{cases_lt}
+-- Levels that stand for themselves are made so, and past the array they are read so. Assumes nothing.
+use Rattle.std.proofs.Common.{arith, rules}
 use Rattle.layouts.specs.Levels.{plain}
+use Rattle.layouts.proofs.Laying.{read_anywhere}
 use Rattle.layouts.proofs.layout.calls.plain_levels.Goals as goal
 
 pub returns : goal.returns
-returns c l =
-    ⊎_elim (λ h. let called = (c.from_fn.ensures.items.at l (plain l) h).2 in search rules) (λ h. get_or_past c.from_fn.result l (plain l) (omega (arith, c.from_fn.ensures.items.long)))
-    (cases_lt l 32)
+returns c =
+    let made = c.from_fn.ensures.items in
+    read_anywhere plain c.from_fn.result (λ l h. let called = (made.at l (plain l) (omega (arith, made.long))).2 in search rules)
