@@ -24,8 +24,8 @@ fn leaf_words<K: Value>(form: Form) -> (u32, u32)
     ensures high { result.1 ≡ mark_high K.Value.kind (decomposition form) }
 {
     match form {
-        Form::Shannon | Form::PositiveDavio => (K::zero_word(), K::one_word()),
-        Form::NegativeDavio => (K::one_word(), K::difference(K::zero_word(), K::one_word())),
+        Form::Shannon | Form::PositiveDavio => (K::ZERO, K::ONE),
+        Form::NegativeDavio => (K::ONE, K::difference(K::ZERO, K::ONE)),
     }
 }
 

@@ -31,10 +31,10 @@ fn visit<K: Value>(
         Content::Node { level, low, high } => {
             let turn = Turn::of(layout.form(level), has_mark(fruit, layout.mark(level)));
             frames.open(turn, low, high);
-            K::zero_word()
+            K::ZERO
         }
         // A free place has no rule.
-        Content::Free => K::zero_word(),
+        Content::Free => K::ZERO,
     }
 }
 
@@ -43,7 +43,7 @@ pub fn grade<K: Value>(places: &Places, layout: &Layout, handle: u16, fruit: u32
     ensures { (d : Diagram) → Stands (holds places.now) d handle → Good K.Value.kind (view layout.now) 0 d → result ≡ rule K.Value.kind (view layout.now) d fruit }
 {
     let mut frames = Frames::begin(handle);
-    let mut total = K::zero_word();
+    let mut total = K::ZERO;
     while let Some(place) = frames.pop() {
         total = K::sum(total, visit::<K>(&mut frames, places, layout, place, fruit));
     }

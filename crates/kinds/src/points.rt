@@ -1,4 +1,4 @@
-ghost use Rattle.std.specs.Prelude.{◌≡◌};
+ghost use Rattle.std.specs.Prelude.{◌≡◌, refl};
 ghost use Rattle.diagrams.specs.TwoKinds.{points};
 ghost use Rattle.diagrams.proofs.TwoKinds.{points_laws};
 
@@ -15,21 +15,15 @@ impl Value for Points {
 
     const ONE: u32 = 1;
 
+    ghost CODE = { 2 };
+
+    ghost ZERO = { 0 };
+
+    ghost ONE = { 1 };
+
     ghost kind = { points };
 
     ghost laws = { points_laws };
-
-    fn code_byte() -> u8 {
-        Self::CODE
-    }
-
-    fn zero_word() -> u32 {
-        Self::ZERO
-    }
-
-    fn one_word() -> u32 {
-        Self::ONE
-    }
 
     fn is_value(_word: u32) -> bool {
         true
@@ -46,4 +40,10 @@ impl Value for Points {
     fn product(a: u32, b: u32) -> u32 {
         a.wrapping_mul(b)
     }
+
+    ghost code_of_kind = { refl };
+
+    ghost zero_of_kind = { refl };
+
+    ghost one_of_kind = { refl };
 }

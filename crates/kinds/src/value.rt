@@ -1,4 +1,4 @@
-ghost use Rattle.std.specs.Prelude.{◌≡◌};
+ghost use Rattle.std.specs.Prelude.{◌≡◌, ℕ};
 ghost use Rattle.diagrams.specs.Kinds.{Kind, Laws};
 
 /// A kind of value: which words are values, and how they are added, subtracted and multiplied. An impl says which kind of the
@@ -11,21 +11,15 @@ pub trait Value {
     /// The word that is neutral for the product.
     const ONE: u32;
 
+    ghost CODE: { ℕ };
+
+    ghost ZERO: { ℕ };
+
+    ghost ONE: { ℕ };
+
     ghost kind: { Kind };
 
     ghost laws: { Laws kind };
-
-    // Code that serves every kind knows nothing of an impl's constants. So each constant is read by a method, whose contract says
-    // what it is and whose body is the constant.
-
-    fn code_byte() -> u8
-        ensures { result ≡ kind.code };
-
-    fn zero_word() -> u32
-        ensures { result ≡ kind.zero };
-
-    fn one_word() -> u32
-        ensures { result ≡ kind.one };
 
     /// Whether a word is a value of this kind.
     fn is_value(word: u32) -> bool
@@ -42,4 +36,10 @@ pub trait Value {
     /// The product of two values; zero where a word is no value.
     fn product(a: u32, b: u32) -> u32
         ensures { result ≡ kind.product a b };
+
+    ghost code_of_kind: { CODE ≡ kind.code };
+
+    ghost zero_of_kind: { ZERO ≡ kind.zero };
+
+    ghost one_of_kind: { ONE ≡ kind.one };
 }

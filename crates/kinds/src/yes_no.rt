@@ -1,4 +1,4 @@
-ghost use Rattle.std.specs.Prelude.{◌≡◌};
+ghost use Rattle.std.specs.Prelude.{◌≡◌, refl};
 ghost use Rattle.diagrams.specs.TwoKinds.{yes_no};
 ghost use Rattle.diagrams.proofs.TwoKinds.{yes_no_laws};
 
@@ -15,21 +15,15 @@ impl Value for YesNo {
 
     const ONE: u32 = 1;
 
+    ghost CODE = { 1 };
+
+    ghost ZERO = { 0 };
+
+    ghost ONE = { 1 };
+
     ghost kind = { yes_no };
 
     ghost laws = { yes_no_laws };
-
-    fn code_byte() -> u8 {
-        Self::CODE
-    }
-
-    fn zero_word() -> u32 {
-        Self::ZERO
-    }
-
-    fn one_word() -> u32 {
-        Self::ONE
-    }
 
     fn is_value(word: u32) -> bool {
         word < 2
@@ -39,7 +33,7 @@ impl Value for YesNo {
         if Self::is_value(a) && Self::is_value(b) {
             a ^ b
         } else {
-            Self::zero_word()
+            Self::ZERO
         }
     }
 
@@ -52,7 +46,13 @@ impl Value for YesNo {
         if Self::is_value(a) && Self::is_value(b) {
             a & b
         } else {
-            Self::zero_word()
+            Self::ZERO
         }
     }
+
+    ghost code_of_kind = { refl };
+
+    ghost zero_of_kind = { refl };
+
+    ghost one_of_kind = { refl };
 }

@@ -1,3 +1,4 @@
 pub mod Capacities
 pub mod Forms
+pub mod Levels
 pub mod View

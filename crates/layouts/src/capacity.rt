@@ -3,7 +3,7 @@ ghost use Rattle.std.specs.Prelude.{◌≤◌};
 mod calls;
 
 /// How many places a table has: a number from 2 to 4,096.
-#[derive(Clone, Copy)]
+#[derive(Clone, Copy, Debug, PartialEq, Eq)]
 pub struct Capacity {
     places: u16,
     ghost least: { 2 ≤ places },

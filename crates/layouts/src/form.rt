@@ -5,7 +5,7 @@ ghost use Rattle.layouts.specs.Forms.{decomposition, formed};
 use refusals::Refusal;
 
 /// The type of a level: how the rule of a node there comes from those of low and high.
-#[derive(Clone, Copy)]
+#[derive(Clone, Copy, Debug, PartialEq, Eq)]
 pub enum Form {
     /// Low where the mark is 0, high where it is 1.
     Shannon,
@@ -15,11 +15,13 @@ pub enum Form {
     NegativeDavio,
 }
 
-impl Form {
+impl TryFrom<u32> for Form {
+    type Error = Refusal;
+
+    ghost try_from_gives = { λ number r. r ≡ formed number };
+
     /// The type of a number from 0 to 2.
-    pub fn new(number: u32) -> Result<Form, Refusal>
-        ensures { result ≡ formed number }
-    {
+    fn try_from(number: u32) -> Result<Form, Refusal> {
         match number {
             0 => Ok(Form::Shannon),
             1 => Ok(Form::PositiveDavio),
@@ -27,7 +29,9 @@ impl Form {
             _ => Err(Refusal::NoSuchType),
         }
     }
+}
 
+impl Form {
     /// The number of the type, 0 to 2.
     pub fn number(self) -> u8
         ensures { result ≡ type_code (decomposition self) }

@@ -5,6 +5,7 @@ pub mod capacity;
 pub mod form;
 pub mod fruit;
 pub mod layout;
+mod level;
 
 pub use capacity::Capacity;
 pub use form::Form;

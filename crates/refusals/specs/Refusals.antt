@@ -41,6 +41,12 @@ layer_of n = cond (n == 13) Bytes (cond (nat_le 14 n && nat_le n 24) Sheet Table
 abbrev pub layer : Refusal → Layer
 layer e = layer_of (number e)
 
+-- What a layer is called, as ASCII bytes.
+abbrev pub layer_text : Layer → List ℕ
+layer_text Bytes = codes "bytes"
+layer_text Sheet = codes "sheet"
+layer_text Table = codes "table"
+
 -- What a refusal says, as ASCII bytes.
 abbrev pub text : Refusal → List ℕ
 text LayoutSize = codes "the layout has no marks or more than 32"

@@ -1,20 +1,20 @@
 // Why a sheet is not read: a fault of the bytes turns into one of the sheet, and that into one of the table, each carried whole.
 ghost use Rattle.std.specs.Prelude.{◌≡◌};
-ghost use Rattle.refusals.specs.declared.fault.SheetFault.TheVariants.{Bytes};
+ghost use Rattle.refusals.specs.declared.fault.SheetFault.TheVariants.{Bytes, Broken};
 ghost use Rattle.refusals.specs.declared.fault.TableFault.TheVariants.{Sheet};
 ghost use Rattle.refusals.specs.Faults.{sheet_refusal, sheet_place, table_refusal, table_place};
 
 use crate::refusal::Refusal;
 
 /// A record is missing or cut short.
-#[derive(Clone, Copy)]
+#[derive(Clone, Copy, Debug, PartialEq, Eq)]
 pub struct ByteFault {
     /// The byte place of the record.
     pub place: usize,
 }
 
 /// Why bytes are no sheet.
-#[derive(Clone, Copy)]
+#[derive(Clone, Copy, Debug, PartialEq, Eq)]
 pub enum SheetFault {
     /// They end within a record.
     Bytes(ByteFault),
@@ -23,7 +23,7 @@ pub enum SheetFault {
 }
 
 /// Why a table does not take a sheet.
-#[derive(Clone, Copy)]
+#[derive(Clone, Copy, Debug, PartialEq, Eq)]
 pub enum TableFault {
     /// The bytes are no sheet of the table.
     Sheet(SheetFault),
@@ -31,6 +31,18 @@ pub enum TableFault {
     ShortList,
     /// The record at a byte place finds the table full.
     Full { place: usize },
+}
+
+impl Refusal {
+    /// The fault of a sheet that breaks this rule at a byte place.
+    pub fn at(self, place: usize) -> SheetFault
+        ensures { result ≡ Broken self place }
+    {
+        SheetFault::Broken {
+            refusal: self,
+            place,
+        }
+    }
 }
 
 impl SheetFault {

@@ -5,7 +5,7 @@ use crate::layer::Layer;
 use std::fmt;
 
 /// Why a call is refused. The numbers also give the order in which the reasons are looked for.
-#[derive(Clone, Copy)]
+#[derive(Clone, Copy, Debug, PartialEq, Eq)]
 pub enum Refusal {
     /// A layout's size lies outside 1 to 32.
     LayoutSize = 1,
@@ -71,9 +71,19 @@ impl Refusal {
     pub fn layer(self) -> Layer
         ensures { result ≡ layer self }
     {
-        match self.number() {
-            13 => Layer::Bytes,
-            14..=24 => Layer::Sheet,
+        match self {
+            Refusal::RecordCut => Layer::Bytes,
+            Refusal::RecordKind
+            | Refusal::RecordLength
+            | Refusal::WrongHead
+            | Refusal::TooManyRecords
+            | Refusal::LeafNotAValue
+            | Refusal::BadNode
+            | Refusal::Dropped
+            | Refusal::Repeated
+            | Refusal::WrongCount
+            | Refusal::BytesAfterEnd
+            | Refusal::WrongNumber => Layer::Sheet,
             _ => Layer::Table,
         }
     }

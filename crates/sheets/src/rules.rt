@@ -34,7 +34,7 @@ impl Records<'_> {
         if form == 0 {
             return low == high;
         }
-        item(self.bytes, self.list, high as usize) == Item::Leaf(V::zero_word())
+        item(self.bytes, self.list, high as usize) == Item::Leaf(V::ZERO)
     }
 
     // What the record of a leaf has to keep after its frame.

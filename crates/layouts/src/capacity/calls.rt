@@ -9,7 +9,7 @@ impl Capacity {
     pub fn new(places: u32) -> Result<Capacity, Refusal>
         ensures { counted result ≡ checked places }
     {
-        if places < 2 || places > 4096 {
+        if !(2..=4096).contains(&places) {
             return Err(Refusal::Capacity);
         }
         Ok(Capacity {

@@ -1,25 +1,27 @@
-ghost use Rattle.std.specs.Prelude.{◌≡◌, ℕ, ◌^◌, false, is_ok, nat_lt, slice_index_or};
+ghost use Rattle.std.specs.Prelude.{◌≡◌, ℕ, ◌<◌, ◌^◌, false, is_ok, nat_lt, slice_index_or};
 ghost use Rattle.diagrams.specs.Layouts as plan;
 ghost use Rattle.layouts.specs.Forms.{decomposition};
+ghost use Rattle.layouts.specs.Levels.{level_of, plain};
 ghost use Rattle.layouts.specs.View.{view, told};
 
 use super::Layout;
 use crate::form::Form;
+use crate::level::Level;
 use refusals::Refusal;
+use std::array;
 
 impl Layout {
     /// A layout of so many marks, mark i on level i, every type Shannon.
     pub fn begin(size: u32) -> Result<Layout, Refusal>
         ensures { told view result ≡ plan.begin size }
     {
-        if size < 1 || size > 32 {
+        if !(1..=32).contains(&size) {
             return Err(Refusal::LayoutSize);
         }
         Ok(Layout {
             size: size as u8,
-            marks: natural(),
-            levels: natural(),
-            forms: [Form::Shannon; 32],
+            levels: plain_levels(),
+            places: plain_places(),
         })
     }
 
@@ -33,10 +35,9 @@ impl Layout {
             return Err(Refusal::NoSuchMark);
         }
         let (a, b) = (a as usize, b as usize);
-        self.levels
-            .swap(self.marks[a] as usize, self.marks[b] as usize);
-        self.marks.swap(a, b);
-        self.forms.swap(a, b);
+        self.places
+            .swap(self.levels[a].mark as usize, self.levels[b].mark as usize);
+        self.levels.swap(a, b);
         Ok(())
     }
 
@@ -48,9 +49,9 @@ impl Layout {
         if mark >= u32::from(self.size) {
             return Err(Refusal::NoSuchMark);
         }
-        let form = Form::new(number)?;
-        let level = self.levels[mark as usize];
-        self.forms[level as usize] = form;
+        let form = Form::try_from(number)?;
+        let level = self.places[mark as usize];
+        self.levels[level as usize].form = form;
         Ok(())
     }
 
@@ -65,30 +66,21 @@ impl Layout {
     pub fn mark(&self, level: u8) -> u8
         ensures { result ≡ (view self.now).mark level }
     {
-        match self.marks.get(level as usize) {
-            Some(mark) => *mark,
-            None => level,
-        }
+        self.on(level).mark
     }
 
     /// The level of a mark.
     pub fn level(&self, mark: u8) -> u8
         ensures { result ≡ (view self.now).level mark }
     {
-        match self.levels.get(mark as usize) {
-            Some(level) => *level,
-            None => mark,
-        }
+        self.places.get(mark as usize).copied().unwrap_or(mark)
     }
 
     /// The type of a level.
     pub fn form(&self, level: u8) -> Form
         ensures { decomposition result ≡ (view self.now).type level }
     {
-        match self.forms.get(level as usize) {
-            Some(form) => *form,
-            None => Form::Shannon,
-        }
+        self.on(level).form
     }
 
     /// Whether a word is a fruit of this layout: it has no mark at the size or past it.
@@ -97,15 +89,28 @@ impl Layout {
     {
         u64::from(word) < 1u64 << self.size
     }
+
+    // What stands on a level; past the array a level stands for itself.
+    fn on(&self, level: u8) -> Level
+        ensures { result ≡ slice_index_or self.now.levels level (plain level) }
+    {
+        self.levels
+            .get(level as usize)
+            .copied()
+            .unwrap_or(Level::plain(level))
+    }
 }
 
-// Each number at its own place.
-fn natural() -> [u8; 32]
-    ensures { (k : ℕ) → slice_index_or result k k ≡ k }
+// Levels that stand for themselves.
+fn plain_levels() -> [Level; 32]
+    ensures { (l : ℕ) → slice_index_or result l (plain l) ≡ plain l }
 {
-    let mut all = [0; 32];
-    for k in 0..32u8 {
-        all[k as usize] = k;
-    }
-    all
+    array::from_fn(|level| Level::plain(level as u8))
+}
+
+// Marks on the levels of their own numbers.
+fn plain_places() -> [u8; 32]
+    ensures { (i : ℕ) → level_of result i ≡ i }
+{
+    array::from_fn(|mark| mark as u8)
 }

@@ -29,7 +29,7 @@ impl<K: Value, S: Store> Open<K, S> {
         ensures sameness { Sameness }
     {
         store.forget();
-        let places = Places::fresh(capacity.get(), K::zero_word(), K::one_word());
+        let places = Places::fresh(capacity.get(), K::ZERO, K::ONE);
         Open {
             layout,
             places,

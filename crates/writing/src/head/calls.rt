@@ -14,7 +14,7 @@ impl Head {
         ensures { head_bytes result ≡ head_body K.Value.kind (view layout.now) }
     {
         let mut head = Head::new();
-        head.push(K::code_byte());
+        head.push(K::CODE);
         head.push(layout.size());
         head.push_marks(layout);
         head.push_types(layout);

@@ -1,5 +1,5 @@
 -- Each turn moves what a place adds from the open places to the total. Assumes nothing.
-use Rattle.std.proofs.Common.{subst}
+use Rattle.std.proofs.Common.{subst, ◌∙◌}
 use Rattle.diagrams.specs.Diagrams.{Lawful}
 use Rattle.layouts.specs.declared.layout.Layout.{Layout}
 use Rattle.layouts.specs.View.{view}
@@ -14,7 +14,7 @@ lawful : (g : Over) (y : Layout) → Lawful g.K.Value.kind (view y)
 lawful g y = record { laws = g.K.Value.laws; valid = layout_valid y }
 
 pub loop-place-init : goal.loop-place-init
-loop-place-init g c = began _ _ (lawful g c.args.layout.now) _ _ _ _ _ c.begin-frames.ensures c.zero_word-total.ensures
+loop-place-init g c = began _ _ (lawful g c.args.layout.now) _ _ _ _ _ c.begin-frames.ensures (c.ZERO-total.ensures ∙ g.met.K.Value.zero_of_kind)
 
 pub visit-requires : goal.visit-requires
 visit-requires g c = (subst (Stacked c.args.places.now) c.in-Some.ensures c.loop-place.invariant.stacked).0

@@ -14,7 +14,7 @@ chosen_opened L fruit l x y m k b c here type mark marked =
 
 pub returns-in-Node : goal.returns-in-Node
 returns-in-Node g c = record {
-  gives = c.zero_word.ensures ∙ ap (worth g.K.Value.kind) c.in-Node.ensures;
+  gives = c.ZERO.ensures ∙ g.met.K.Value.zero_of_kind ∙ ap (worth g.K.Value.kind) c.in-Node.ensures;
   opens =
       c.open.ensures
       ∙ ap (λ (hs : List ℕ). hs ++ pending c.args.frames.now)
