@@ -1,8 +1,8 @@
 // A list of records as slots: every key has one slot of the list, and only the record there answers it.
-ghost use Rattle.std.specs.Prelude.{◌≡◌, ℕ, ◌<◌, length, Some};
+ghost use Rattle.std.specs.Prelude.{◌≡◌, ◌<◌, length, Some};
 ghost use Rattle.histories.specs.Stores.{Forgotten, Offered};
 ghost use Rattle.stores.specs.Keys.{key_of};
-ghost use Rattle.stores.specs.Kept.{SameAnswers, nothing, on_top, in_slots, over, spilled, written};
+ghost use Rattle.stores.specs.Kept.{SameAnswers, in_slots, spilled};
 
 use crate::{Entry, Key};
 
