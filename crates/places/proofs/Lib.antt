@@ -1,11 +1,9 @@
 pub mod Holding
-pub mod Starting
-pub mod Filled
 pub mod Standing
 pub mod Extending
 pub mod Listing
 pub mod Rules
-pub mod Recounted
-pub mod Sweeping
-pub mod Swept
 pub mod Drawing
+pub mod Recounted
+pub mod Swept
+pub mod Filled

@@ -40,13 +40,17 @@ pub record Freed (before after : Places) (marks : List ℕ) (freed : ℕ) : Type
 abbrev pub loose : Slot → ℕ → Bool
 loose s mark = mark == 0 && in_use (seen_content s.content)
 
+-- A slot after a sweep: free where it was in use and has no mark.
+abbrev pub swept : Slot → ℕ → Slot
+swept s mark = cond (loose s mark) blank s
+
 -- Whether the slot of a number is in use and has no mark.
 abbrev pub loose_at : List Slot → List ℕ → ℕ → Bool
 loose_at slots marks h = loose (slice_index_or slots h blank) (slice_index marks h)
 
--- Every slot below n that was in use and has no mark is free, and every other is as it was; so many are freed.
-pub record Swept (before after : List Slot) (n : ℕ) (marks : List ℕ) (freed : ℕ) : Type 0 where
+-- Every slot that has a number below as many as there are marks is swept, every other is as it was; so many are freed.
+pub record Swept (before after : List Slot) (marks : List ℕ) (freed : ℕ) : Type 0 where
   pub size : length after ≡ length before
-  pub below : (h : ℕ) → h < n → slice_index_or after h blank ≡ cond (loose_at before marks h) blank (slice_index_or before h blank)
-  pub rest : (h : ℕ) → n ≤ h → slice_index_or after h blank ≡ slice_index_or before h blank
-  pub many : freed ≡ tally n (loose_at before marks)
+  pub below : (h : ℕ) → h < length marks → slice_index_or after h blank ≡ swept (slice_index_or before h blank) (slice_index marks h)
+  pub rest : (h : ℕ) → length marks ≤ h → slice_index_or after h blank ≡ slice_index_or before h blank
+  pub many : freed ≡ tally (length marks) (loose_at before marks)

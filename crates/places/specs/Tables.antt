@@ -38,10 +38,14 @@ pub record Fresh (t : Places) (capacity zero one : ℕ) : Type 0 where
   pub second : place t 1 ≡ record { content = leaf_word one; count = 0 }
   pub rest : (h : ℕ) → 2 ≤ h → place t h ≡ vacant
 
--- Where a content stands; nothing, where it stands nowhere below the capacity.
+-- Where a content stands among the first n; nothing, where it stands at none of them.
+abbrev pub Found : (ℕ → Content) → ℕ → Content → Option ℕ → Type 0
+Found held n c None = (h : ℕ) → h < n → held h ≢ c
+Found held n c (Some h) = (h < n) × (held h ≡ c)
+
+-- Where a content stands below the capacity.
 abbrev pub Sought : Places → Content → Option ℕ → Type 0
-Sought t c None = (h : ℕ) → h < t.capacity → holds t h ≢ c
-Sought t c (Some h) = (h < t.capacity) × (holds t h ≡ c)
+Sought t = Found (holds t) t.capacity
 
 -- Places in use stay as they were, and nobody holds a place that came into use.
 pub record Extends (before after : Places) : Type 0 where

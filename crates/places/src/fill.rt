@@ -1,22 +1,25 @@
-ghost use Rattle.std.specs.Prelude.{◌≡◌, ℕ, ◌+◌, ◌<◌, true, Some, None};
+ghost use Rattle.std.specs.Prelude.{◌≡◌, ◌+◌, ◌<◌, true, length, Some, None};
 ghost use Rattle.diagrams.specs.Places.{free, leaf_word, node_at};
 ghost use Rattle.places.specs.Contents.{seen_content, in_use, at, deep};
-ghost use Rattle.places.specs.Tables.{Sought, Given, Filling, Under};
+ghost use Rattle.places.specs.Tables.{Found, Sought, Given, Filling, Under};
 
-use crate::place::Content;
+use crate::place::{Content, Place};
 use crate::places::Places;
+
+// The slot that holds a content.
+fn position(slots: &[Place], content: Content) -> Option<usize>
+    ensures { Found (at slots.now) (length slots.now) (seen_content content) result }
+{
+    slots.iter().position(|slot| slot.content == content)
+}
 
 impl Places {
     // The place that holds a content.
     fn seek(&self, content: Content) -> Option<u16>
         ensures { Sought self.now (seen_content content) result }
     {
-        for h in 0..self.capacity {
-            if self.places[h as usize].content == content {
-                return Some(h);
-            }
-        }
-        None
+        let h = position(&self.places[..usize::from(self.capacity)], content)?;
+        Some(h as u16)
     }
 
     // Fills a free place with a content that no place holds.

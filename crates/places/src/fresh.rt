@@ -6,13 +6,14 @@ use crate::place::{Content, Place};
 use crate::places::Places;
 
 // Places of which the first two hold leaves.
-fn starting(zero: u32, one: u32) -> [Place; 4096]
+fn starting<const N: usize>(zero: u32, one: u32) -> [Place; N]
+    requires { 2 ≤ N }
     ensures { Starting result zero one }
 {
     let mut places = [Place {
         content: Content::Free,
         count: 0,
-    }; 4096];
+    }; N];
     places[0].fill(Content::Leaf(zero));
     places[1].fill(Content::Leaf(one));
     places

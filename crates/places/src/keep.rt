@@ -1,32 +1,35 @@
 ghost use Rattle.std.specs.Prelude.{◌≡◌, ◌≤◌, length};
 ghost use Rattle.places.specs.Tables.{Used};
-ghost use Rattle.places.specs.Keeping.{Holding, LettingGo, Keeps, Freed, loose, Swept};
+ghost use Rattle.places.specs.Keeping.{Holding, LettingGo, Keeps, Freed, loose, swept, Swept};
 
 use crate::place::Place;
 use crate::places::Places;
 
 impl Place {
-    // Whether it is in use and has no mark.
-    fn is_loose(&self, mark: u32) -> bool
-        ensures { result ≡ loose self.now mark }
+    // Frees it if it is in use and has no mark, and answers whether it did.
+    fn sweep(&mut self, mark: u32) -> bool
+        ensures told { result ≡ loose self.old mark }
+        ensures swept { self.new ≡ swept self.old mark }
     {
-        mark == 0 && self.is_used()
+        let loose = mark == 0 && self.is_used();
+        if loose {
+            self.free();
+        }
+        loose
     }
 }
 
-// Frees every slot below a bound that has no mark, and answers how many were in use.
+// Frees every slot whose mark is 0, and answers how many were in use; slots past the marks stay.
 // A node may lose a child before it is freed itself, so this works on the slots and not on a table.
-fn sweep(places: &mut [Place; 4096], bound: u16, marks: &[u32]) -> u16
-    requires few { bound ≤ 4096 }
-    requires room { bound ≤ length marks.now }
-    ensures { Swept places.old places.new bound marks.now result }
+// By number: of what is written through `iter_mut().zip(marks)` a proof knows nothing afterwards.
+#[tactic(auto, using(diagrams::proofs::Tallies::tally_none))]
+fn sweep(slots: &mut [Place; 4096], marks: &[u32]) -> u16
+    requires { length marks.now ≤ 4096 }
+    ensures { Swept slots.old slots.new marks.now result }
 {
     let mut freed = 0;
-    for h in 0..bound {
-        if places[h as usize].is_loose(marks[h as usize]) {
-            places[h as usize].free();
-            freed += 1;
-        }
+    for (h, mark) in marks.iter().enumerate() {
+        freed += u16::from(slots[h].sweep(*mark));
     }
     freed
 }
@@ -54,6 +57,6 @@ impl Places {
         requires keeps { Keeps self.old marks.now }
         ensures { Freed self.old self.new marks.now result }
     {
-        sweep(&mut self.places, self.capacity, marks)
+        sweep(&mut self.places, &marks[..usize::from(self.capacity)])
     }
 }

@@ -21,8 +21,7 @@ impl Place {
     pub fn fill(&mut self, content: Content)
         ensures { self.new ≡ record { content = content; count = 0 } }
     {
-        self.content = content;
-        self.count = 0;
+        *self = Place { content, count: 0 };
     }
 
     // Gives up what it holds.
@@ -36,10 +35,7 @@ impl Place {
     pub fn is_used(&self) -> bool
         ensures { result ≡ in_use (seen_content self.now.content) }
     {
-        match self.content {
-            Content::Free => false,
-            _ => true,
-        }
+        self.content != Content::Free
     }
 
     // One hold more, and the new count, unless the count is at its limit.

@@ -1,5 +1,5 @@
 ghost use Rattle.std.specs.Prelude.{◌≡◌};
-ghost use Rattle.places.specs.Contents.{seen_content, depth};
+ghost use Rattle.places.specs.Contents.{seen_content, in_use, depth};
 ghost use Rattle.places.specs.Tables.{place, holds, Live, Trusted};
 
 use crate::place::Content;
@@ -17,20 +17,25 @@ impl Places {
     pub fn count(&self, h: u16) -> u16
         ensures { result ≡ (place self.now h).count }
     {
-        match self.places.get(h as usize) {
-            Some(place) => place.count,
-            None => 0,
-        }
+        self.places
+            .get(usize::from(h))
+            .map_or(0, |place| place.count)
     }
 
     // What a place holds.
     pub fn content(&self, h: u16) -> Content
         ensures { seen_content result ≡ holds self.now h }
     {
-        if h >= self.capacity {
-            return Content::Free;
-        }
-        self.places[h as usize].content
+        self.places
+            .get(usize::from(h))
+            .map_or(Content::Free, |place| place.content)
+    }
+
+    // Whether a place holds a leaf or a node.
+    fn is_used(&self, h: u16) -> bool
+        ensures { result ≡ in_use (holds self.now h) }
+    {
+        self.content(h) != Content::Free
     }
 
     // The level on which a place stands; leaves stand deepest, on 32.
@@ -47,27 +52,13 @@ impl Places {
     pub fn live(&self, h: u32) -> Option<u16>
         ensures { Live self.now h result }
     {
-        if h >= 4096 {
-            return None;
-        }
-        let place = h as u16;
-        if let Content::Free = self.content(place) {
-            return None;
-        }
-        Some(place)
+        u16::try_from(h).ok().filter(|place| self.is_used(*place))
     }
 
     // An answer, unless its place is not in use or stands above the level.
     pub fn trusted(&self, answer: Option<u16>, level: u8) -> Option<u16>
         ensures { Trusted self.now level answer result }
     {
-        let h = answer?;
-        if let Content::Free = self.content(h) {
-            return None;
-        }
-        if self.level_of(h) < level {
-            return None;
-        }
-        Some(h)
+        answer.filter(|h| self.is_used(*h) && level <= self.level_of(*h))
     }
 }

@@ -3,7 +3,7 @@ ghost use Rattle.histories.specs.Stores.{Offered, Forgotten};
 ghost use Rattle.stores.specs.Keys.{key_of};
 ghost use Rattle.stores.specs.Kept.{SameAnswers, last_entries, only};
 
-use crate::{Entry, Key, Store, slots};
+use crate::{Entry, Key, Store};
 
 #[derive(Drop)]
 pub struct Last {
@@ -23,7 +23,7 @@ impl Store for Last {
     ghost entries = { last_entries };
 
     fn ask(&self, key: Key) -> Option<u16> {
-        slots::held(self.newest, key)
+        self.newest?.answer_to(key)
     }
 
     fn offer(&mut self, key: Key, answer: u16)

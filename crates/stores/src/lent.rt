@@ -28,25 +28,25 @@ impl<'a> Store for Lent<'a> {
     ghost entries = { lent_entries };
 
     fn ask(&self, key: Key) -> Option<u16> {
-        if let Some(answer) = slots::held(self.newest, key) {
-            return Some(answer);
-        }
-        slots::find(self.list, key)
+        self.newest
+            .and_then(|newest| newest.answer_to(key))
+            .or_else(|| slots::find(self.list, key))
     }
 
     fn offer(&mut self, key: Key, answer: u16)
         ensures offered { Offered (lent_entries self.old) (lent_entries self.new) (key_of key) answer }
         ensures renewed { Renewed self.old self.new key answer }
     {
-        let former = self.newest;
-        self.newest = slots::push(self.list, former, Entry { key, answer });
+        if let Some(former) = self.newest.replace(Entry { key, answer }) {
+            slots::write(self.list, former);
+        }
     }
 
     fn forget(&mut self)
         ensures forgotten { Forgotten (lent_entries self.new) }
         ensures slots { size self.new ≡ size self.old }
     {
-        slots::clear(self.list);
+        self.list.fill(None);
         self.newest = None;
     }
 }

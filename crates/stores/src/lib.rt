@@ -2,7 +2,7 @@
 #![tactic(auto)]
 
 ghost use Rattle.std.specs.Prelude.{◌≡◌};
-ghost use Rattle.histories.specs.Stores.{Entries, Offered, Forgotten, same_key};
+ghost use Rattle.histories.specs.Stores.{Entries, Offered, Forgotten};
 ghost use Rattle.stores.specs.Keys.{key_of};
 ghost use Rattle.stores.specs.Kept.{only, hash};
 
@@ -12,7 +12,7 @@ pub mod own;
 mod slots;
 
 // An operation whose results are stored.
-#[derive(Clone, Copy)]
+#[derive(Clone, Copy, PartialEq, Eq)]
 pub enum Operation {
     Sum = 0,
     Difference = 1,
@@ -21,7 +21,7 @@ pub enum Operation {
 }
 
 // What an entry is found by. A restriction's right is 2 × mark + constant.
-#[derive(Clone, Copy)]
+#[derive(Clone, Copy, PartialEq, Eq)]
 pub struct Key {
     pub operation: Operation,
     pub left: u16,
@@ -29,20 +29,12 @@ pub struct Key {
 }
 
 impl Key {
-    // Whole keys are compared, since keys of one slot may differ in any part.
-    fn same_as(self, other: Key) -> bool
-        ensures { result ≡ same_key (key_of self) (key_of other) }
-    {
-        self.operation as u8 == other.operation as u8
-            && self.left == other.left
-            && self.right == other.right
-    }
-
     // Both factors are odd, so that of 256 slots left alone, or right alone, reaches each.
+    // No derived Hash: what a store keeps is promised slot by slot, and std promises no derived hash's number.
     fn hash(self) -> usize
         ensures { result ≡ hash (key_of self) }
     {
-        self.operation as usize + 31 * self.left as usize + 7 * self.right as usize
+        self.operation as usize + 31 * usize::from(self.left) + 7 * usize::from(self.right)
     }
 }
 
@@ -54,14 +46,11 @@ pub struct Entry {
 }
 
 impl Entry {
+    // Whole keys are compared, since keys of one slot may differ in any part.
     fn answer_to(self, key: Key) -> Option<u16>
         ensures { result ≡ only (key_of self.key) self.answer (key_of key) }
     {
-        if key.same_as(self.key) {
-            Some(self.answer)
-        } else {
-            None
-        }
+        (key == self.key).then_some(self.answer)
     }
 }
 

@@ -10,19 +10,14 @@ pub struct Own {
     list: [Option<Entry>; 256],
 }
 
-// Slots with nothing in them.
-fn empty() -> [Option<Entry>; 256]
-    ensures { Forgotten (in_slots result) }
-{
-    [None; 256]
-}
-
 impl Own {
     // A store with no entries.
     pub fn new() -> Own
         ensures { Forgotten (own_entries result) }
     {
-        Own { list: empty() }
+        Own {
+            list: slots::empty(),
+        }
     }
 }
 
@@ -41,6 +36,6 @@ impl Store for Own {
     }
 
     fn forget(&mut self) {
-        slots::clear(&mut self.list);
+        self.list.fill(None);
     }
 }
