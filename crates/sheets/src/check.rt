@@ -3,6 +3,7 @@ ghost use Rattle.diagrams.specs.Kinds.{Kind};
 ghost use Rattle.diagrams.specs.Layouts.{Layout};
 ghost use Rattle.sheets.specs.Scanned.{Suits, Complete, Checked};
 
+use crate::fault::broken;
 use crate::head::Expected;
 use crate::records::Records;
 use crate::scan::{Progress, scan};
@@ -17,17 +18,14 @@ impl Records<'_> {
     {
         let after = end.place + 6;
         if after < self.bytes.len() {
-            return Err(SheetFault::Broken {
-                refusal: Refusal::BytesAfterEnd,
-                place: after,
-            });
+            return Err(broken(Refusal::BytesAfterEnd, after));
         }
         match self.visit((end.count - 1) as u16, 0) {
             Ok(_) => Ok(end.count),
-            Err(stray) => Err(SheetFault::Broken {
-                refusal: Refusal::WrongNumber,
-                place: self.list[stray.number as usize] as usize,
-            }),
+            Err(stray) => Err(broken(
+                Refusal::WrongNumber,
+                self.list[stray.number as usize] as usize,
+            )),
         }
     }
 }

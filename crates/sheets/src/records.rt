@@ -5,7 +5,6 @@ ghost use Rattle.diagrams.specs.Reading.{nth, holds};
 ghost use Rattle.diagrams.specs.Sizes.{among};
 ghost use Rattle.sheets.specs.Held.{Held, Listed, Known, shown, diagram_of};
 
-use crate::frame::two;
 use crate::record::Item;
 
 /// The leaves and nodes of a sheet that are read already.
@@ -22,8 +21,8 @@ pub fn item(bytes: &[u8], list: &[u32], i: usize) -> Item
     requires { (seen : List Diagram) × Held bytes.now list.now seen × (i < length seen) }
     ensures { (seen : List Diagram) → Held bytes.now list.now seen → i < length seen → result ≡ shown seen (nth seen i) }
 {
-    let record = &bytes[list[i] as usize..];
-    Item::of_kind(two(record, 2), record)
+    let place = list[i] as usize;
+    Item::read(&bytes[place..], place, i).unwrap()
 }
 
 impl Records<'_> {

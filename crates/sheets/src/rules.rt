@@ -6,6 +6,7 @@ ghost use Rattle.diagrams.specs.Reading.{part, fine, nth, holds, leaf_found, nod
 ghost use Rattle.sheets.specs.Held.{Held, Listed};
 ghost use Rattle.sheets.specs.Judged.{Types, Next, is_broken, ruled, judged, stands_for};
 
+use crate::fault::broken;
 use crate::head::Expected;
 use crate::record::Item;
 use crate::records::{Records, item};
@@ -114,7 +115,7 @@ impl Records<'_> {
         let item = Item::read(&self.bytes[place..], place, self.list.len())?;
         match self.check_item::<V>(expected, item) {
             Ok(()) => Ok(item),
-            Err(refusal) => Err(SheetFault::Broken { refusal, place }),
+            Err(refusal) => Err(broken(refusal, place)),
         }
     }
 }

@@ -10,7 +10,7 @@ overflow_add-after c =
     Fits-below {n = 600006} tt (omega (arith, near read.lawful read.small read.ends.at read.room))
 
 pub returns-then-after-self : goal.returns-then-after-self
-returns-then-after-self c = λ K L limit read. extra read.lawful read.small read.ends read.room c.if-after-self.true
+returns-then-after-self c = λ K L limit read. rw c.broken.ensures (extra read.lawful read.small read.ends read.room c.if-after-self.true)
 
 pub overflow_sub-end : goal.overflow_sub-end
 overflow_sub-end c = omega (arith, c.requires.3.ends.some)
@@ -41,4 +41,4 @@ pub returns-in-Err : goal.returns-in-Err
 returns-in-Err c = λ K L limit read.
     let at = read.ends.at in
     let strays = c.in-Err.ensures at.seen (held read.lawful read.small at read.room) (omega (arith, read.ends.some, at.counted)) (omega arith) in
-    one_wrong read.lawful read.small read.ends read.room c.if-after-self.false c.in-Err.stray.number strays
+    rw c.broken-in-Err.ensures (one_wrong read.lawful read.small read.ends read.room c.if-after-self.false c.in-Err.stray.number strays)

@@ -25,9 +25,9 @@ returns-in-Ok g c = λ L seen types listed.
 pub returns-in-Err : goal.returns-in-Err
 returns-in-Err g c = λ L seen types listed.
     let lent : List ℕ = take (length c.args.self.bytes.now - c.args.place) (drop c.args.place c.args.self.bytes.now) in
-    record {
+    rw c.broken.ensures (record {
       refused = ap (found g.V.Value.kind L c.args.expected.limit seen) (sym (take_rest c.args.self.bytes.now c.args.place))
           ∙ frame_right g.V.Value.kind L c.args.expected.limit seen (length c.args.self.list.now) c.args.place lent listed.whole c.in_ok-item.item c.in_ok-item.ensures
           ∙ sym (c.in-Err.ensures L seen types listed);
       there = refl;
-    }
+    })
