@@ -1,26 +1,43 @@
 -- Records that stand in the bytes, read back by number. Assumes nothing.
-use Rattle.std.proofs.Common.{◌≡◌, ℕ, ◌+◌, ◌-◌, ◌^◌, ◌<◌, ◌≤◌, true, false, eqb, List, ◌++◌, length, get_or, take, drop, sym, refl, ap, ◌∙◌, subst, ap₂, inl, inr, arith}
+use Rattle.std.proofs.Common.{◌≡◌, ℕ, zero, suc, drop-cons, take-suc, ◌+◌, ◌-◌, ◌^◌, ◌<◌, ◌≤◌, true, false, eqb, List, [], ◌∷◌, ◌++◌, length, get_or, take, drop, sym, refl, ap, ◌∙◌, subst, ap₂, inl, inr, Ok, Err, Result, ltb, arith}
 use mathlib.Core.List.Memᴰ
-use Rattle.std.proofs.lemmas.Bool.{cases_eq, eq-eqb, ne_eqb}
-use Rattle.std.proofs.lemmas.List.{length-drop, length-take-le, take-append-drop, take_rest}
+use Rattle.std.proofs.lemmas.Bool.{cases_eq, le-ltb, or_from, eq-eqb, ne_eqb}
+use Rattle.std.proofs.lemmas.List.{take_all, drop_all, length-drop, length-take-le, take-append-drop, take_rest}
 use Rattle.diagrams.specs.Kinds.{Kind}
 use Rattle.diagrams.specs.Layouts.{Decomposition, shannon, positive, negative, type_code}
 use Rattle.diagrams.specs.Diagrams.{Diagram, leaf, node, same, spare}
 use Rattle.diagrams.specs.Sizes.{Distinct, among}
 use Rattle.diagrams.specs.Sheets.{number, record_at}
-use Rattle.diagrams.specs.Reading.{holds, kind_of, by_kind, nth, Children}
+use Rattle.diagrams.specs.Reading.{bad, fine, unless, holds, kind_of, stated, cut, frame_rules, nth, Children}
 use Rattle.diagrams.proofs.Visits.{Mem, children_more, mem_nth, number_within, number_more, nth_number, same_record, alike_records}
-use Rattle.diagrams.proofs.Found.{two_told, four_told}
+use Rattle.diagrams.proofs.Found.{two_told, four_told, not_fine}
 use Rattle.sheets.specs.declared.record.Item.{Item}
 use Rattle.sheets.specs.declared.record.Item.TheVariants.{Leaf, Node, End}
-use Rattle.sheets.specs.Frames.{item_of}
-use Rattle.sheets.specs.Held.{Held, Listed, Known, shown, diagram_of}
+use Rattle.sheets.specs.Frames.{item_of, Framed}
+use Rattle.refusals.specs.declared.fault.SheetFault.{SheetFault}
+use Rattle.std.specs.Result.{IsOk}
+use Rattle.sheets.specs.Held.{Held, Listed, Known, drawn_after, drawn, shown, diagram_of}
 
--- Bytes that begin with a record are as long as its kind has it.
-long : (seen : List Diagram) (d : Diagram) (rest more : List ℕ) → rest ≡ record_at seen d ++ more
-    → (3 < length rest) × (4 + by_kind (kind_of rest) 4 5 2 ≤ length rest)
-long seen (leaf v) rest more e = rw e (omega arith, omega arith)
-long seen (node l a b) rest more e = rw e (omega arith, omega arith)
+-- Bytes that begin with a record are as long as one.
+long : (seen : List Diagram) (d : Diagram) (rest more : List ℕ) → rest ≡ record_at seen d ++ more → 8 ≤ length rest
+long seen (leaf v) rest more e = rw e (omega arith)
+long seen (node l a b) rest more e = rw e (omega arith)
+
+-- And their frame is right.
+right : (count : ℕ) (seen : List Diagram) (d : Diagram) (rest more : List ℕ) → rest ≡ record_at seen d ++ more → unless bad (frame_rules count rest) fine ≡ fine
+right count seen (leaf v) rest more e =
+    let bytes : List ℕ = record_at seen (leaf v) ++ more in
+    let whole : cut bytes ≡ false = or_from (ltb (length bytes) 4) (ltb (length bytes) (4 + stated bytes)) (le-ltb _ _ (omega arith)) (le-ltb _ _ (omega arith)) in
+    rw (e, whole) refl
+right count seen (node l a b) rest more e =
+    let bytes : List ℕ = record_at seen (node l a b) ++ more in
+    let whole : cut bytes ≡ false = or_from (ltb (length bytes) 4) (ltb (length bytes) (4 + stated bytes)) (le-ltb _ _ (omega arith)) (le-ltb _ _ (omega arith)) in
+    rw (e, whole) refl
+
+-- A record whose frame is right is read.
+pub read_right : (count place : ℕ) (bytes : List ℕ) (r : Result Item SheetFault) → Framed count place bytes r → unless bad (frame_rules count bytes) fine ≡ fine → IsOk r
+read_right count place bytes (Ok item) h e = refl
+read_right count place bytes (Err f) h e = absurd (not_fine _ (sym h.refused ∙ e))
 
 -- What is read from them is what the record holds.
 reads : (seen : List Diagram) (d : Diagram) (rest more : List ℕ) → rest ≡ record_at seen d ++ more → ((v : ℕ) → d ≡ leaf v → v < 2 ^ 32)
@@ -32,7 +49,7 @@ reads seen (node l a b) rest more e words c few =
 
 module _ (bytes list : List ℕ) (seen : List Diagram) (held : Held bytes list seen) (i : ℕ) (h : i < length seen) where
   -- The bytes from record i on, as a part of them is lent.
-  abbrev lent : List ℕ
+  abbrev pub lent : List ℕ
   lent = take (length bytes - get_or list i 0) (drop (get_or list i 0) bytes)
 
   lent_is : lent ≡ record_at seen (nth seen i) ++ (held.stands i h).0
@@ -41,10 +58,10 @@ module _ (bytes list : List ℕ) (seen : List Diagram) (held : Held bytes list s
   pub inside : get_or list i 0 ≤ length bytes
   inside =
       let s = held.stands i h in
-      omega (arith, (long seen (nth seen i) _ s.0 s.1).0, length-drop (get_or list i 0) bytes)
+      omega (arith, long seen (nth seen i) _ s.0 s.1, length-drop (get_or list i 0) bytes)
 
-  pub lent_long : (3 < length lent) × (4 + by_kind (kind_of lent) 4 5 2 ≤ length lent)
-  lent_long = long seen (nth seen i) lent (held.stands i h).0 lent_is
+  pub lent_right : (count : ℕ) → unless bad (frame_rules count lent) fine ≡ fine
+  lent_right count = right count seen (nth seen i) lent (held.stands i h).0 lent_is
 
   children : Children (nth seen i) seen
   children = subst (Children (nth seen i)) (take-append-drop i seen) (children_more (nth seen i) (take i seen) (drop i seen) (held.earlier i h))
@@ -69,13 +86,39 @@ module _ (bytes list : List ℕ) (seen : List Diagram) (held : Held bytes list s
           let r = inner y c.1 in
           rw q (ap₂ (node l) (sym p.0) (sym r.0), (p.1, r.1))
 
-  -- What is no node is a leaf.
-  pub leaf_back : (a : Item) → a ≡ shown seen (nth seen i) → ((l x y : ℕ) → a ≡ Node l x y → ⊥) → (v : ℕ) × (nth seen i ≡ leaf v)
-  leaf_back a e n = go (nth seen i) e
+-- What is no node is a leaf.
+pub leaf_back : (seen : List Diagram) (d : Diagram) (a : Item) → a ≡ shown seen d → ((l x y : ℕ) → a ≡ Node l x y → ⊥) → (v : ℕ) × (d ≡ leaf v)
+leaf_back seen (leaf v) a e n = (v, refl)
+leaf_back seen (node l x y) a e n = absurd (n l (number x seen) (number y seen) e)
+
+-- The records that a list has are those that are read from it.
+module _ (bytes list : List ℕ) (seen : List Diagram) (listed : Listed bytes list seen) where
+  early : (k : ℕ) (d : Diagram) → k ≤ length seen → Children d (take k seen) → diagram_of (take k seen) (shown seen d) ≡ d
+  early k (leaf v) h c = refl
+  early k (node l a b) h c = ap₂ (node l) (child a c.0) (child b c.1)
     where
-      go : (d : Diagram) → a ≡ shown seen d → (v : ℕ) × (d ≡ leaf v)
-      go (leaf v) q = (v, refl)
-      go (node l x y) q = absurd (n l (number x seen) (number y seen) q)
+      child : (d : Diagram) → Mem d (take k seen) → nth (take k seen) (number d seen) ≡ d
+      child d m =
+          let same_number : number d seen ≡ number d (take k seen) = ap (number d) (sym (take-append-drop k seen)) ∙ number_more d (take k seen) (drop k seen) m in
+          ap (nth (take k seen)) same_number ∙ nth_number d (take k seen) m
+
+  from : (n k : ℕ) → k + n ≡ length seen → drawn_after bytes (take k seen) (drop k list) ≡ seen
+  unfolding drawn_after
+  from zero k e =
+      rw (drop_all k list (omega (arith, listed.whole))) (take_all k seen (omega arith))
+  from (suc n) k e =
+      let h : k < length seen = omega arith in
+      let there : List ℕ = drop (get_or list k 0) bytes in
+      let s = listed.held.stands k h in
+      let children = children bytes list seen listed.held k h in
+      let told : item_of (kind_of there) there ≡ shown seen (nth seen k) = reads seen (nth seen k) there s.0 s.1 (λ v e. listed.held.words k v h e) children listed.held.few in
+      let drawn_there = ap (diagram_of (take k seen)) told ∙ early k (nth seen k) (omega arith) (listed.held.earlier k h) in
+      let next : take k seen ++ (diagram_of (take k seen) (item_of (kind_of there) there) ∷ []) ≡ take (suc k) seen =
+      ap (λ d. take k seen ++ (d ∷ [])) drawn_there ∙ sym (take-suc seen k (leaf 0) h) in
+      ap (drawn_after bytes (take k seen)) (drop-cons list k 0 (omega (arith, listed.whole))) ∙ ap (λ ds. drawn_after bytes ds (drop (suc k) list)) next ∙ from n (suc k) (omega arith)
+
+  pub drawn_seen : drawn bytes list ≡ seen
+  drawn_seen = from (length seen) 0 (omega arith)
 
 -- Leaves and nodes by number are one where their diagrams are.
 same_item : (seen : List Diagram) → Distinct seen → (a b : Item) → Known (length seen) a → Known (length seen) b → diagram_of seen a ≡ diagram_of seen b → a ≡ b
@@ -106,23 +149,18 @@ holds_no (yes p) n = absurd (n p)
 holds_no (no _) n = refl
 
 -- Whether a leaf or node stands among the records.
-module _ (bytes list : List ℕ) (seen : List Diagram) (listed : Listed bytes list seen) (wanted : Item) where
-  pub stands_there : (i : ℕ) → i < length list → wanted ≡ shown seen (nth seen i) → holds (among (diagram_of seen wanted) seen) ≡ true
-  stands_there i h e =
-      let k : i < length seen = omega (arith, listed.whole) in
-      holds_yes (among (diagram_of seen wanted) seen) (Memᴰ.cast (sym (drawn_back bytes list seen listed.held i k wanted e).0) (mem_nth seen i k))
+module _ (seen : List Diagram) (wanted : Item) where
+  pub stands_there : (i : ℕ) → i < length seen → nth seen i ≡ diagram_of seen wanted → holds (among (diagram_of seen wanted) seen) ≡ true
+  stands_there i h e = holds_yes (among (diagram_of seen wanted) seen) (Memᴰ.cast (sym e) (mem_nth seen i h))
 
-  module _ (known : Known (length seen) wanted) where
-    pub stands_not : (i : ℕ) → i < length list → (a : Item) → a ≡ shown seen (nth seen i) → ¬ (a ≡ wanted) → ¬ (nth seen i ≡ diagram_of seen wanted)
-    stands_not i h a e n q =
-        let k : i < length seen = omega (arith, listed.whole) in
-        let p = drawn_back bytes list seen listed.held i k a e in
-        n (same_item seen listed.held.apart a wanted (known_more i (length seen) a (omega arith) p.1) known (sym p.0 ∙ q))
+  pub stands_not : Distinct seen → Known (length seen) wanted → (i : ℕ) → i < length seen → (a : Item) → nth seen i ≡ diagram_of seen a → Known i a → ¬ (a ≡ wanted)
+      → ¬ (nth seen i ≡ diagram_of seen wanted)
+  stands_not apart known i h a e k n q = n (same_item seen apart a wanted (known_more i (length seen) a (omega arith) k) known (sym e ∙ q))
 
-    pub stands_nowhere : ((k : ℕ) → k < length list → ¬ (nth seen k ≡ diagram_of seen wanted)) → holds (among (diagram_of seen wanted) seen) ≡ false
-    stands_nowhere n =
-        holds_no (among (diagram_of seen wanted) seen)
-        (λ m. n (number (diagram_of seen wanted) seen) (omega (arith, listed.whole, number_within (diagram_of seen wanted) seen m)) (nth_number (diagram_of seen wanted) seen m))
+  pub stands_nowhere : ((k : ℕ) → k < length seen → ¬ (nth seen k ≡ diagram_of seen wanted)) → holds (among (diagram_of seen wanted) seen) ≡ false
+  stands_nowhere n =
+      holds_no (among (diagram_of seen wanted) seen)
+      (λ m. n (number (diagram_of seen wanted) seen) (number_within (diagram_of seen wanted) seen m) (nth_number (diagram_of seen wanted) seen m))
 
 -- On a Shannon level the drop rule goes by the children's numbers.
 pub shannon_drops : (K : Kind) (t : Decomposition) (seen : List Diagram) → Distinct seen → (x y : ℕ) → x < length seen → y < length seen → type_code t ≡ 0

@@ -1,16 +1,24 @@
 -- A record by its bytes: its frame, and what it holds. Assumes nothing.
-use Rattle.std.specs.Prelude.{◌≡◌, ℕ, cond, List, Ok, Err, Result, slice_index}
+use Rattle.std.specs.Prelude.{◌≡◌, ℕ, true, false, List, take, drop, Ok, Err, Result, slice_index}
 use Rattle.diagrams.specs.Reading.{bad, fine, unless, two_at, four_at, stated, kind_of, cut, by_kind, frame_rules}
 use Rattle.refusals.specs.declared.fault.ByteFault.{ByteFault}
 use Rattle.refusals.specs.declared.fault.SheetFault.{SheetFault}
 use Rattle.sheets.specs.declared.frame.Frame.{Frame}
 use Rattle.sheets.specs.declared.record.Item.{Item}
 use Rattle.sheets.specs.declared.record.Item.TheVariants.{Leaf, Node, End}
+use Rattle.sheets.specs.Codes.{Coded}
 use Rattle.sheets.specs.Faults.{Tells}
 
--- The frame of the record at the front of the bytes, unless the record is missing or cut short.
-abbrev pub frame_of : ℕ → List ℕ → Result Frame ByteFault
-frame_of place bytes = cond (cut bytes) (Err (record { place = place })) (Ok (record { length = stated bytes; kind = kind_of bytes }))
+-- A frame that the bytes begin with: a whole record, the kind that its number stands for, and its body.
+pub record Opened (bytes : List ℕ) (f : Frame) : Type 0 where
+  pub whole : cut bytes ≡ false
+  pub kind_is : Coded (kind_of bytes) f.kind
+  pub body_is : f.body.now ≡ take (stated bytes) (drop 4 bytes)
+
+-- The frame at the front of the bytes, unless the record is missing or cut short.
+abbrev pub Framing : ℕ → List ℕ → Result Frame ByteFault → Type 0
+Framing place bytes (Ok f) = Opened bytes f
+Framing place bytes (Err f) = (cut bytes ≡ true) × (f.place ≡ place)
 
 -- What the record of a kind at the front of the bytes holds.
 abbrev pub item_of : ℕ → List ℕ → Item

@@ -1,9 +1,10 @@
 -- Records that stand in the bytes of a sheet at the byte places of a list. Assumes nothing.
-use Rattle.std.specs.Prelude.{◌≡◌, ℕ, ◌^◌, ◌<◌, ◌≤◌, List, ◌++◌, length, take, drop, slice_index}
+use Rattle.std.specs.Prelude.{◌≡◌, ℕ, ◌^◌, ◌<◌, ◌≤◌, List, [], ◌∷◌, ◌++◌, length, take, drop, slice_index}
 use Rattle.diagrams.specs.Diagrams.{Diagram, leaf, node}
 use Rattle.diagrams.specs.Sizes.{Distinct}
 use Rattle.diagrams.specs.Sheets.{number, record_at}
-use Rattle.diagrams.specs.Reading.{nth, Children}
+use Rattle.diagrams.specs.Reading.{kind_of, nth, Children}
+use Rattle.sheets.specs.Frames.{item_of}
 use Rattle.sheets.specs.declared.record.Item.{Item}
 use Rattle.sheets.specs.declared.record.Item.TheVariants.{Leaf, Node, End}
 
@@ -31,6 +32,17 @@ abbrev pub diagram_of : List Diagram → Item → Diagram
 diagram_of seen (Leaf w) = leaf w
 diagram_of seen (Node l x y) = node l (nth seen x) (nth seen y)
 diagram_of seen (End n) = leaf 0
+
+-- The diagrams of the records at some byte places, in turn, after those of `seen`.
+unfoldable pub drawn_after : List ℕ → List Diagram → List ℕ → List Diagram
+drawn_after bytes seen [] = seen
+drawn_after bytes seen (place ∷ places) =
+    let record_there : List ℕ = drop place bytes in
+    drawn_after bytes (seen ++ (diagram_of seen (item_of (kind_of record_there) record_there) ∷ [])) places
+
+-- The diagrams of the records at the byte places of a list.
+abbrev pub drawn : List ℕ → List ℕ → List Diagram
+drawn bytes list = drawn_after bytes [] list
 
 -- A leaf, or a node whose children are among the first `count` records.
 abbrev pub Known : ℕ → Item → Type 0

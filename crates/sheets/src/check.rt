@@ -3,32 +3,26 @@ ghost use Rattle.diagrams.specs.Kinds.{Kind};
 ghost use Rattle.diagrams.specs.Layouts.{Layout};
 ghost use Rattle.sheets.specs.Scanned.{Suits, Complete, Checked};
 
+use crate::fault::broken;
 use crate::head::Expected;
 use crate::records::Records;
 use crate::scan::{Progress, scan};
 use kinds::Value;
 use refusals::{Refusal, SheetFault};
 
-impl Records<'_> {
-    // What is left past the end: no bytes follow, and every record has the number that writing would give it.
-    fn finish(self, end: Progress) -> Result<usize, SheetFault>
-        requires { (K : Kind) × (L : Layout) × (limit : ℕ) × Complete K L limit self.bytes.now end.place end.count self.list.now }
-        ensures { (K : Kind) (L : Layout) (limit : ℕ) → Complete K L limit self.entry.bytes.now end.place end.count self.entry.list.now → Checked K L limit self.entry.bytes.now self.entry.list.now result }
-    {
-        let after = end.place + 6;
-        if after < self.bytes.len() {
-            return Err(SheetFault::Broken {
-                refusal: Refusal::BytesAfterEnd,
-                place: after,
-            });
-        }
-        match self.visit((end.count - 1) as u16, 0) {
-            Ok(_) => Ok(end.count),
-            Err(stray) => Err(SheetFault::Broken {
-                refusal: Refusal::WrongNumber,
-                place: self.list[stray.number as usize] as usize,
-            }),
-        }
+// What is left past the end: no bytes follow, and every record has the number that writing would give it.
+fn finish(bytes: &[u8], list: &[u32], end: Progress) -> Result<usize, SheetFault>
+    requires { (K : Kind) × (L : Layout) × (limit : ℕ) × Complete K L limit bytes.now end.place end.count list.now }
+    ensures { (K : Kind) (L : Layout) (limit : ℕ) → Complete K L limit bytes.now end.place end.count list.now → Checked K L limit bytes.now list.now result }
+{
+    let after = end.place + 6;
+    if after < bytes.len() {
+        return Err(broken(Refusal::BytesAfterEnd, after));
+    }
+    let records = Records::new(bytes, &list[..end.count]);
+    match records.visit((end.count - 1) as u16, 0) {
+        Ok(_) => Ok(end.count),
+        Err(stray) => Err(broken(Refusal::WrongNumber, list[stray.number as usize] as usize)),
     }
 }
 
@@ -45,5 +39,5 @@ pub fn check<V: Value>(
 {
     expected.check_head(bytes)?;
     let end = scan::<V>(bytes, expected, list)?;
-    Records { bytes, list }.finish(end)
+    finish(bytes, list, end)
 }

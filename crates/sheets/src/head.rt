@@ -2,7 +2,9 @@ ghost use Rattle.diagrams.specs.Kinds.{Kind};
 ghost use Rattle.diagrams.specs.Layouts.{Layout};
 ghost use Rattle.sheets.specs.Scanned.{Suits, Headed};
 
+use crate::fault::broken;
 use crate::frame::Frame;
+use crate::kind::RecordKind;
 use refusals::{Refusal, SheetFault};
 
 /// What a table asks of a sheet.
@@ -22,23 +24,14 @@ impl Expected<'_> {
         ensures { (K : Kind) (L : Layout) → Suits K L self.entry.head.now self.entry.types.now self.entry.limit → Headed K L self.entry.limit bytes.now result }
     {
         let frame = Frame::read(bytes, 0)?;
-        if frame.kind != 1 {
-            return Err(SheetFault::Broken {
-                refusal: Refusal::RecordKind,
-                place: 0,
-            });
+        if frame.kind != Some(RecordKind::Head) {
+            return Err(broken(Refusal::RecordKind, 0));
         }
-        if 4 + frame.length as usize != self.head.len() {
-            return Err(SheetFault::Broken {
-                refusal: Refusal::RecordLength,
-                place: 0,
-            });
+        if 4 + frame.body.len() != self.head.len() {
+            return Err(broken(Refusal::RecordLength, 0));
         }
         if !bytes.starts_with(self.head) {
-            return Err(SheetFault::Broken {
-                refusal: Refusal::WrongHead,
-                place: 0,
-            });
+            return Err(broken(Refusal::WrongHead, 0));
         }
         Ok(())
     }

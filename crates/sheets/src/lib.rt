@@ -2,8 +2,10 @@
 #![tactic(auto)]
 
 mod check;
+mod fault;
 mod frame;
 mod head;
+mod kind;
 mod numbering;
 pub mod put;
 mod record;

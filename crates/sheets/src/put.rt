@@ -1,33 +1,40 @@
-ghost use Rattle.std.specs.Prelude.{◌≡◌, ◌+◌, ◌≤◌, ◌∷◌, ◌++◌, length};
+ghost use Rattle.std.specs.Prelude.{◌≡◌, ◌+◌, ◌<◌, ◌≤◌, ◌∷◌, ◌++◌, length};
 ghost use Rattle.std.proofs.lemmas.List.Edits.{sets};
 ghost use Rattle.diagrams.specs.Sheets.{two, four, record_of};
+ghost use Rattle.sheets.specs.Codes.{code};
 
-// A number in two bytes, the low one first.
-fn put_two(out: &mut [u8], place: usize, number: u16)
-    requires { place + 2 ≤ length out.old }
-    ensures { out.new ≡ sets out.old place (two number) }
-{
-    out[place] = (number % 256) as u8;
-    out[place + 1] = (number / 256 % 256) as u8;
-}
+use crate::kind::RecordKind;
 
-// What every record begins with: the length of its body, and its kind.
-fn open(out: &mut [u8], place: usize, size: u16, kind: u16)
-    requires { place + 4 ≤ length out.old }
-    ensures { out.new ≡ sets out.old place (two size ++ two kind) }
-{
-    put_two(out, place, size);
-    put_two(out, place + 2, kind);
-}
-
-// Bytes, one after another.
-fn put_bytes(out: &mut [u8], place: usize, bytes: &[u8])
+// Bytes, one after another. Answers the place after them.
+fn put_bytes(out: &mut [u8], place: usize, bytes: &[u8]) -> usize
     requires { place + length bytes.now ≤ length out.old }
-    ensures { out.new ≡ sets out.old place bytes.now }
+    ensures bytes { out.new ≡ sets out.old place bytes.now }
+    ensures after { result ≡ place + length bytes.now }
 {
-    for (i, byte) in bytes.iter().enumerate() {
-        out[place + i] = *byte;
-    }
+    let after = place + bytes.len();
+    out[place..after].copy_from_slice(bytes);
+    after
+}
+
+// A number in two bytes, the low one first. Answers the place after them.
+fn put_two(out: &mut [u8], place: usize, number: u16) -> usize
+    requires { place + 2 ≤ length out.old }
+    ensures bytes { out.new ≡ sets out.old place (two number) }
+    ensures after { result ≡ place + 2 }
+{
+    put_bytes(out, place, &number.to_le_bytes())
+}
+
+// A record: the length of its body, its kind, its body. Answers the place after it.
+fn put_record(out: &mut [u8], place: usize, kind: RecordKind, body: &[u8]) -> usize
+    requires small { length body.now < 65536 }
+    requires room { place + length (record_of (code kind) body.now) ≤ length out.old }
+    ensures bytes { out.new ≡ sets out.old place (record_of (code kind) body.now) }
+    ensures after { result ≡ place + length (record_of (code kind) body.now) }
+{
+    let kind_place = put_two(out, place, body.len() as u16);
+    let body_place = put_two(out, kind_place, kind.code());
+    put_bytes(out, body_place, body)
 }
 
 /// The head record, of a body that is made already.
@@ -37,9 +44,7 @@ pub fn put_head(out: &mut [u8], place: usize, body: &[u8]) -> usize
     ensures bytes { out.new ≡ sets out.old place (record_of 1 body.now) }
     ensures after { result ≡ place + length (record_of 1 body.now) }
 {
-    open(out, place, body.len() as u16, 1);
-    put_bytes(out, place + 4, body);
-    place + 4 + body.len()
+    put_record(out, place, RecordKind::Head, body)
 }
 
 /// The record of a leaf: its word.
@@ -48,10 +53,7 @@ pub fn put_leaf(out: &mut [u8], place: usize, word: u32) -> usize
     ensures bytes { out.new ≡ sets out.old place (record_of 2 (four word)) }
     ensures after { result ≡ place + 8 }
 {
-    open(out, place, 4, 2);
-    put_two(out, place + 4, (word % 65536) as u16);
-    put_two(out, place + 6, (word / 65536) as u16);
-    place + 8
+    put_record(out, place, RecordKind::Leaf, &word.to_le_bytes())
 }
 
 /// The record of a node: its level, and the numbers of its children.
@@ -60,11 +62,14 @@ pub fn put_node(out: &mut [u8], place: usize, level: u8, low: u16, high: u16) ->
     ensures bytes { out.new ≡ sets out.old place (record_of 3 (level ∷ two low ++ two high)) }
     ensures after { result ≡ place + 9 }
 {
-    open(out, place, 5, 3);
-    out[place + 4] = level;
-    put_two(out, place + 5, low);
-    put_two(out, place + 7, high);
-    place + 9
+    let [low_0, low_1] = low.to_le_bytes();
+    let [high_0, high_1] = high.to_le_bytes();
+    put_record(
+        out,
+        place,
+        RecordKind::Node,
+        &[level, low_0, low_1, high_0, high_1],
+    )
 }
 
 /// The end record: how many leaves and nodes there are.
@@ -73,7 +78,5 @@ pub fn put_end(out: &mut [u8], place: usize, count: u16) -> usize
     ensures bytes { out.new ≡ sets out.old place (record_of 4 (two count)) }
     ensures after { result ≡ place + 6 }
 {
-    open(out, place, 2, 4);
-    put_two(out, place + 4, count);
-    place + 6
+    put_record(out, place, RecordKind::End, &count.to_le_bytes())
 }

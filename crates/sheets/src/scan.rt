@@ -1,7 +1,11 @@
-ghost use Rattle.std.specs.Prelude.{◌≡◌, ◌≤◌, length, drop};
+ghost use Rattle.std.specs.Prelude.{◌≡◌, ◌<◌, ◌≤◌, List, length, drop};
+ghost use Rattle.diagrams.specs.Diagrams.{Diagram};
 ghost use Rattle.diagrams.specs.Layouts.{Layout};
+ghost use Rattle.sheets.specs.Held.{Listed};
+ghost use Rattle.sheets.specs.Judged.{Types, Next};
 ghost use Rattle.sheets.specs.Scanned.{Suits, Begun, At, Stepped, Scanned};
 
+use crate::fault::broken;
 use crate::head::Expected;
 use crate::record::Item;
 use crate::records::Records;
@@ -13,6 +17,26 @@ use refusals::SheetFault;
 pub struct Progress {
     pub place: usize,
     pub count: usize,
+}
+
+// What the record at a byte place holds, after those of the list, or the first of the rules 13 to 22 that it breaks.
+fn next<V: Value>(
+    bytes: &[u8],
+    list: &[u32],
+    expected: Expected<'_>,
+    place: usize,
+) -> Result<Item, SheetFault>
+    requires read { (seen : List Diagram) × Listed bytes.now list.now seen }
+    requires small { length expected.types.now < 256 }
+    requires inside { place ≤ length bytes.now }
+    ensures { (L : Layout) (seen : List Diagram) → Types L expected.entry.types.now → Listed bytes.now list.now seen → Next V.Value.kind L expected.entry.limit seen place bytes.now result }
+{
+    let item = Item::read(&bytes[place..], place, list.len())?;
+    let records = Records::new(bytes, list);
+    match records.check_item::<V>(expected, item) {
+        Ok(()) => Ok(item),
+        Err(refusal) => Err(broken(refusal, place)),
+    }
 }
 
 // One more record, its byte place put into the list; nothing at the end.
@@ -27,11 +51,8 @@ fn step<V: Value>(
     ensures reads { (L : Layout) → Suits V.Value.kind L expected.entry.head.now expected.entry.types.now expected.entry.limit → At V.Value.kind L expected.entry.limit bytes.now reached.place reached.count list.old → Stepped V.Value.kind L expected.entry.limit bytes.now reached.place reached.count list.new result }
     ensures past { drop expected.entry.limit list.new ≡ drop expected.entry.limit list.old }
 {
-    let records = Records {
-        bytes,
-        list: &list[..reached.count],
-    };
-    let size = match records.next::<V>(expected, reached.place)? {
+    let seen = &list[..reached.count];
+    let size = match next::<V>(bytes, seen, expected, reached.place)? {
         Item::Leaf(_) => 8,
         Item::Node { .. } => 9,
         Item::End(_) => return Ok(None),

@@ -1,19 +1,17 @@
 -- The record stands where the list says. Assumes nothing.
-use Rattle.std.proofs.Common.{◌∙◌, arith}
-use Rattle.sheets.proofs.Holding.{inside, lent_long, lent_shows}
+use Rattle.std.proofs.Common.{get_or, ◌∙◌, arith}
+use Rattle.sheets.proofs.Holding.{lent, inside, lent_right, lent_shows, read_right}
 use Rattle.sheets.proofs.records.item.Goals as goal
 
-pub slice_bounds-record-count : goal.slice_bounds-record-count
-slice_bounds-record-count c = inside c.args.bytes.now c.args.list.now c.requires.0 c.requires.1 c.args.i c.requires.2
+pub slice_bounds-read-count : goal.slice_bounds-read-count
+slice_bounds-read-count c = inside c.args.bytes.now c.args.list.now c.requires.0 c.requires.1 c.args.i c.requires.2
 
-pub slice_bounds-record-start : goal.slice_bounds-record-start
-slice_bounds-record-start c = omega (arith, inside c.args.bytes.now c.args.list.now c.requires.0 c.requires.1 c.args.i c.requires.2)
+pub slice_bounds-read-start : goal.slice_bounds-read-start
+slice_bounds-read-start c = omega (arith, inside c.args.bytes.now c.args.list.now c.requires.0 c.requires.1 c.args.i c.requires.2)
 
-pub two-requires : goal.two-requires
-two-requires c = (lent_long c.args.bytes.now c.args.list.now c.requires.0 c.requires.1 c.args.i c.requires.2).0
-
-pub of_kind-requires : goal.of_kind-requires
-of_kind-requires c = rw c.two.ensures (lent_long c.args.bytes.now c.args.list.now c.requires.0 c.requires.1 c.args.i c.requires.2).1
+pub unwrap-requires : goal.unwrap-requires
+unwrap-requires c =
+    read_right c.args.i (get_or c.args.list.now c.args.i 0) (lent c.args.bytes.now c.args.list.now c.requires.0 c.requires.1 c.args.i c.requires.2) c.read.result c.read.ensures (lent_right c.args.bytes.now c.args.list.now c.requires.0 c.requires.1 c.args.i c.requires.2 c.args.i)
 
 pub returns : goal.returns
-returns c = λ seen held h. c.of_kind.ensures ∙ rw c.two.ensures (lent_shows c.args.bytes.now c.args.list.now seen held c.args.i h)
+returns c = λ seen held h. (rw c.unwrap.ensures at c.read.ensures).1 ∙ lent_shows c.args.bytes.now c.args.list.now seen held c.args.i h

@@ -2,10 +2,10 @@
 use Rattle.sheets.proofs.records.Records.check_item.Goals as goal
 
 pub returns-in-Leaf : goal.returns-in-Leaf
-returns-in-Leaf g c = λ L seen types listed. rw c.in-Leaf.is (c.check_leaf.ensures L seen listed)
+returns-in-Leaf g c = λ L types. rw c.in-Leaf.is (c.check_leaf.ensures L)
 
 pub returns-in-Node : goal.returns-in-Node
-returns-in-Node g c = λ L seen types listed. rw c.in-Node.is (c.check_node.ensures L seen types listed)
+returns-in-Node g c = λ L types. rw c.in-Node.is (c.check_node.ensures L types)
 
 pub returns-in-End : goal.returns-in-End
-returns-in-End g c = λ L seen types listed. rw c.in-End.is (c.check_end.ensures g.V.Value.kind L c.args.expected.limit seen listed)
+returns-in-End g c = λ L types. rw c.in-End.is (c.check_end.ensures g.V.Value.kind L c.args.expected.limit)
