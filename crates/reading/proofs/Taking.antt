@@ -1,8 +1,8 @@
 -- A sheet that was read, and one that found the table full, as the specification of tables has them. Assumes nothing.
-use Rattle.std.proofs.Common.{◌≡◌, ℕ, ◌+◌, ◌<◌, ◌≤◌, List, [], ◌++◌, length, get_or, take, drop, Ok, Err, sym, ap, ◌∙◌, subst, inl, inr, arith}
+use Rattle.std.proofs.Common.{◌≡◌, ℕ, ◌+◌, ◌<◌, ◌≤◌, List, [], ◌++◌, length, get_or, take, drop, Ok, Err, Result, MatchResult, sym, ap, ◌∙◌, subst, inl, inr, arith}
 use mathlib.Core.List.{Memᴰ}
 use Rattle.std.proofs.ByRecursion.{All-from_get_or}
-use Rattle.std.proofs.lemmas.List.{take_more, take-append-drop, drop_more}
+use Rattle.std.proofs.lemmas.List.{take_more, take-append-drop, drop_more, get_or-take, length-take-le}
 use Rattle.diagrams.specs.Kinds.{Kind}
 use Rattle.diagrams.specs.Layouts.{Layout}
 use Rattle.diagrams.specs.Diagrams.{Lawful, Diagram, leaf, Good}
@@ -16,9 +16,13 @@ use Rattle.histories.specs.Tables.{Model, StandsFor, Outnumber}
 use Rattle.histories.specs.Steps.{Gains, Fills}
 use Rattle.places.specs.declared.places.Places.{Places}
 use Rattle.building.specs.Work.{model}
-use Rattle.reading.specs.Placing.{Ready, Filled, Crowded, FillsUp}
+use Rattle.reading.specs.declared.fill.NoRoom.{NoRoom}
+use Rattle.reading.specs.Placing.{Ready, Filled, Crowded, FillsUp, Inside}
+use Rattle.sheets.specs.Held.{Held}
 use Rattle.sheets.specs.Scanned.{Accepted}
-use Rattle.reading.specs.Reads.{Taken, CrowdedAt}
+use Rattle.refusals.specs.declared.fault.TableFault.{TableFault}
+use Rattle.refusals.specs.declared.fault.TableFault.TheVariants.{Full}
+use Rattle.reading.specs.Reads.{Taken, CrowdedAt, Read_in}
 
 -- What came into use by another name.
 pub gains_same : {m n : Model} {P Q : Diagram → Type 0} → ((d : Diagram) → P d → Q d) → ((d : Diagram) → Q d → P d) → Gains m n P → Gains m n Q
@@ -64,11 +68,31 @@ module _ (K : Kind) (L : Layout) (ok : Lawful K L) (t : Places) (limit : ℕ) (r
   comes : read_sheet K L t.capacity bytes ≡ drawn (last seen)
   comes = subst (λ c. read_sheet K L c bytes ≡ drawn (last seen)) room whole.comes
 
+  -- The byte places of its records.
+  abbrev pub places_of : List ℕ
+  places_of = take n list
+
+  place_of : (i : ℕ) → i < length seen → get_or places_of i 0 ≡ get_or list i 0
+  place_of i inside = get_or-take n list i 0 (omega (arith, whole.counted))
+
+  pub whole_counted : length places_of ≡ length seen
+  whole_counted = omega (arith, length-take-le n list (omega (arith, whole.counted, whole.held.room)), whole.counted)
+
+  places_held : Held bytes places_of seen
+  places_held = record {
+    stands = λ i inside. rw (place_of i inside) (whole.held.stands i inside);
+    words = whole.held.words;
+    apart = whole.held.apart;
+    earlier = whole.held.earlier;
+    few = whole.held.few;
+    room = omega (arith, whole_counted);
+  }
+
   -- Its records are ready to get their places.
-  pub whole_ready : Ready K L bytes list seen
+  pub whole_ready : Ready K L bytes places_of seen
   whole_ready = record {
     valid = ok.valid;
-    held = whole.held;
+    held = places_held;
     follow = subst (Follow K L []) whole.ordered (ordered K L (last seen) told.1).0;
     some = subst (λ ds. 0 < length ds) whole.ordered (visited_some (last seen));
     few = omega (arith, told.2, ap length whole.ordered, room, t.few);
@@ -84,11 +108,19 @@ module _ (K : Kind) (L : Layout) (ok : Lawful K L) (t : Places) (limit : ℕ) (r
       gains = λ f p sound. filled_gains K L (last seen) seen whole.ordered (model L f p t) (model L f p u) h told.1 (filled f p sound);
     }
 
-    pub whole_crowded : (i : ℕ) → i < n → FillsUp K L seen t u (Err i) → CrowdedAt K L t u bytes (get_or list i 0)
-    whole_crowded i inside crowded = record {
-      diagram = last seen;
-      told = comes;
-      fills = λ f p sound.
-          crowded_fills K L (last seen) seen whole.ordered (model L f p t) i (get_or list i 0) (crowded f p sound)
-          (whole.placed i (omega (arith, whole.counted)));
-    }
+    pub whole_crowded : (full : NoRoom) → full.number < length places_of → FillsUp K L seen t u (Err full)
+        → CrowdedAt K L t u bytes (get_or places_of full.number 0)
+    whole_crowded full inside crowded =
+        let known : full.number < length seen = omega (arith, whole_counted) in record {
+          diagram = last seen;
+          told = comes;
+          fills = λ f p sound.
+              crowded_fills K L (last seen) seen whole.ordered (model L f p t) full.number (get_or places_of full.number 0) (crowded f p sound)
+              (place_of full.number known ∙ whole.placed full.number known);
+        }
+
+    -- What the call answers, where a record without room is told by its byte place.
+    pub whole_read : (r : Result ℕ NoRoom) (q : Result ℕ TableFault) → FillsUp K L seen t u r → Inside (length places_of) r
+        → MatchResult r (λ h. q ≡ Ok h) (λ full. q ≡ Err (Full (get_or places_of full.number 0))) → Read_in K L t u bytes q
+    whole_read (Ok h) q filled inside told = subst (Read_in K L t u bytes) (sym told) (whole_taken h filled)
+    whole_read (Err full) q crowded inside told = subst (Read_in K L t u bytes) (sym told) (whole_crowded full inside crowded)

@@ -16,6 +16,7 @@ use Rattle.sheets.specs.declared.record.Item.{Item}
 use Rattle.sheets.specs.declared.record.Item.TheVariants.{Leaf, Node, End}
 use Rattle.sheets.specs.Held.{Held}
 use Rattle.building.specs.Work.{model}
+use Rattle.reading.specs.declared.fill.NoRoom.{NoRoom}
 
 -- What the place of a record is to hold, where `handles` has those of the records before it: a leaf's word, or a node's level and its children's handles.
 abbrev pub content_of : List ℕ → Item → Content
@@ -53,17 +54,17 @@ pub record Crowded (m : Model) (seen : List Diagram) (i : ℕ) : Type 0 where
   pub fits : ¬ Outnumber m (λ d. Memᴰ d (take i seen))
   pub full : Outnumber m (λ d. Memᴰ d (take (i + 1) seen))
 
--- What filling came to: the last record's handle, or the number of the record that found the table full.
-abbrev pub Came : Model → Model → List Diagram → Result ℕ ℕ → Type 0
+-- What filling came to: the last record's handle, or the record that found the table full.
+abbrev pub Came : Model → Model → List Diagram → Result ℕ NoRoom → Type 0
 Came m n seen (Ok h) = Filled m n seen h
-Came m n seen (Err i) = Crowded m seen i
+Came m n seen (Err full) = Crowded m seen full.number
 
 -- The same from the places t to u, of whatever sound table they are.
-abbrev pub FillsUp : Kind → Layout → List Diagram → Places → Places → Result ℕ ℕ → Type 0
+abbrev pub FillsUp : Kind → Layout → List Diagram → Places → Places → Result ℕ NoRoom → Type 0
 FillsUp K L seen t u r =
     (entries : Entries) (phase : Phase) → Sound K L (model L entries phase t) → Came (model L entries phase t) (model L entries phase u) seen r
 
--- A record's number that is told is one of so many.
-abbrev pub Inside : ℕ → Result ℕ ℕ → Type 0
+-- A record that is told is one of so many.
+abbrev pub Inside : ℕ → Result ℕ NoRoom → Type 0
 Inside count (Ok h) = Unit {0}
-Inside count (Err i) = i < count
+Inside count (Err full) = full.number < count

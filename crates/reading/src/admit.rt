@@ -7,7 +7,7 @@ use layouts::Layout;
 use refusals::SheetFault;
 use sheets::put::put_head;
 use sheets::{Expected, check_sheet};
-use writing::Head;
+use writing::head_of;
 
 /// Whether bytes are a sheet of the kind and the layout that has no more records than the limit: how many it has, with their byte places put into the list; or
 /// the first of the faults 13 to 24.
@@ -22,12 +22,12 @@ pub fn admit<K: Value>(
     ensures answer { Checked K.Value.kind (view layout.now) limit bytes.now list.new result }
     ensures past { drop limit list.new ≡ drop limit list.old }
 {
-    let head = Head::of::<K>(layout);
+    let head = head_of::<K>(layout);
     let mut record = [0; 70];
-    let end = put_head(&mut record, 0, head.bytes());
+    let end = put_head(&mut record, 0, head.as_slice());
     let expected = Expected {
         head: &record[..end],
-        types: &head.bytes()[2 + layout.size() as usize..],
+        types: &head.as_slice()[2 + layout.size() as usize..],
         limit,
     };
     check_sheet::<K>(bytes, expected, list)

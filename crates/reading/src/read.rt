@@ -1,4 +1,4 @@
-ghost use Rattle.std.specs.Prelude.{◌≡◌, ◌≤◌, length, drop};
+ghost use Rattle.std.specs.Prelude.{◌≡◌, ◌≤◌, length, replicate};
 ghost use Rattle.histories.specs.Steps.{wiped};
 ghost use Rattle.layouts.specs.View.{view};
 ghost use Rattle.reading.specs.Reads.{Read_in, Reads};
@@ -11,7 +11,7 @@ use places::places::Places;
 use refusals::TableFault;
 use walks::Cleared;
 
-// Reads a sheet into the places, where the list has an entry for each of them.
+// Reads a sheet into the places, where the list has an entry for each of them. The list is zero afterwards.
 fn take<K: Value>(
     places: &mut Places,
     layout: &Layout,
@@ -20,15 +20,14 @@ fn take<K: Value>(
 ) -> Result<u16, TableFault>
     requires { places.old.capacity ≤ length list.old }
     ensures answer { Read_in K.Value.kind (view layout.now) places.old places.new bytes.now result }
-    ensures past { drop places.old.capacity list.new ≡ drop places.old.capacity list.old }
+    ensures cleared { list.new ≡ replicate (length list.old) 0 }
 {
-    let count = admit::<K>(layout, places.capacity() as usize, bytes, list)?;
-    match fill(places, bytes, list, count) {
-        Ok(handle) => Ok(handle),
-        Err(number) => Err(TableFault::Full {
-            place: list[number] as usize,
-        }),
-    }
+    let walk = Cleared { marks: list };
+    let count = admit::<K>(layout, places.capacity() as usize, bytes, walk.marks)?;
+    let records = &walk.marks[..count];
+    fill(places, bytes, records).map_err(|full| TableFault::Full {
+        place: records[full.number] as usize,
+    })
 }
 
 /// Reads the sheet in some bytes into the places of a table, and answers the place of its rule. The walk list has at least as many entries as the table
@@ -46,9 +45,5 @@ pub fn read<K: Value>(
     if walk.len() < capacity {
         return Err(TableFault::ShortList);
     }
-    let guard = Cleared {
-        list: walk,
-        count: capacity,
-    };
-    take::<K>(places, layout, bytes, guard.list)
+    take::<K>(places, layout, bytes, &mut walk[..capacity])
 }

@@ -1,5 +1,5 @@
 -- What walks over the places of a table come to, and what sizes and sweeps answer. Assumes nothing.
-use Rattle.std.specs.Prelude.{◌≡◌, ℕ, ◌+◌, ◌<◌, ◌≤◌, Bool, true, false, cond, not, ◌&&◌, ◌||◌, ◌⊎◌, ◌↔◌, List, [], ◌∷◌, length, drop, Ok, Err, Result, nat_lt, slice_index}
+use Rattle.std.specs.Prelude.{◌≡◌, ℕ, ◌+◌, ◌<◌, ◌≤◌, Bool, true, false, not, ◌&&◌, ◌||◌, ◌⊎◌, ◌↔◌, List, [], ◌∷◌, length, drop, Ok, Err, Result, nat_lt, slice_index, count_by}
 use mathlib.Core.List.{Memᴰ}
 use Rattle.diagrams.specs.Diagrams.{Diagram}
 use Rattle.diagrams.specs.Sizes.{Distinct, extent, tally}
@@ -39,8 +39,7 @@ is_node (node_at l x y) = true
 
 -- How many of some handles hold nodes.
 abbrev pub node_count : (ℕ → Content) → List ℕ → ℕ
-node_count at [] = 0
-node_count at (h ∷ hs) = cond (is_node (at h)) 1 0 + node_count at hs
+node_count at hs = count_by (λ h. is_node (at h)) hs
 
 -- What the size of a handle answers: how many nodes are reached from it, or the first refusal.
 abbrev pub Sized : Places → ℕ → List ℕ → Result ℕ Refusal → Type 0

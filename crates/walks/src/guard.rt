@@ -1,9 +1,19 @@
 ghost use Rattle.std.specs.Prelude.{◌≡◌, ◌≤◌, ◌++◌, length, drop, replicate};
 
-/// A lent walk list of which the first entries become zero when the call that was lent it ends, on whichever way.
+/// The entries of a lent walk list that a call works with. They become zero when the call ends, on whichever way.
+// Each call that is lent a list tests its length and takes the first entries itself: no proof is found of what the list is after a function that answers
+// a part of it, or a guard over a part, only where it is long enough.
 pub struct Cleared<'a> {
-    pub list: &'a mut [u32],
-    pub count: usize,
+    pub marks: &'a mut [u32],
+}
+
+impl Drop for Cleared<'_> {
+    fn drop(self)
+        ensures { self.exit.0.now ≡ replicate (length self.entry.marks.now) 0 }
+    {
+        let Cleared { marks } = self;
+        marks.fill(0);
+    }
 }
 
 /// Makes the first entries of a list zero.
@@ -11,17 +21,5 @@ pub fn clear(list: &mut [u32], count: usize)
     requires { count ≤ length list.old }
     ensures { list.new ≡ replicate count 0 ++ drop count list.old }
 {
-    for i in 0..count {
-        list[i] = 0;
-    }
-}
-
-impl Drop for Cleared<'_> {
-    fn drop(self)
-        requires { self.count ≤ length self.list.now }
-        ensures { self.exit.0.now ≡ replicate self.entry.count 0 ++ drop self.entry.count self.entry.list.now }
-    {
-        let Cleared { list, count } = self;
-        clear(list, count);
-    }
+    list[..count].fill(0);
 }

@@ -1,11 +1,11 @@
-ghost use Rattle.std.specs.Prelude.{◌≡◌, ◌≤◌, [], length, drop};
+ghost use Rattle.std.specs.Prelude.{◌≡◌, ℕ, ◌≤◌, List, [], length, drop, replicate};
 ghost use Rattle.diagrams.specs.Diagrams.{Diagram};
 ghost use Rattle.diagrams.specs.Sheets.{visited};
 ghost use Rattle.diagrams.specs.Places.{Stands};
 ghost use Rattle.histories.specs.Steps.{wiped};
 ghost use Rattle.places.specs.Tables.{holds, Used};
 ghost use Rattle.walks.specs.Orders.{collected};
-ghost use Rattle.walks.specs.Walks.{Collected, node_count, Sized, Unwalked};
+ghost use Rattle.walks.specs.Walks.{Collected, is_node, node_count, Sized, Unwalked};
 
 use crate::collecting::collect;
 use crate::guard::{Cleared, clear};
@@ -27,17 +27,21 @@ pub fn reach(places: &Places, place: u16, marks: &mut [u32]) -> Order
     order
 }
 
+// Whether a place holds a node.
+fn holds_node(places: &Places, place: u16) -> bool
+    ensures { result ≡ is_node (holds places.now place) }
+{
+    matches!(places.content(place), Content::Node { .. })
+}
+
 /// How many of the places of an order hold nodes.
 pub fn nodes(places: &Places, order: &Order) -> u32
     ensures { result ≡ node_count (holds places.now) (collected order.now) }
 {
-    let mut count = 0;
-    for place in order.places() {
-        if let Content::Node { .. } = places.content(*place) {
-            count += 1;
-        }
-    }
-    count
+    order
+        .iter()
+        .filter(|place| holds_node(places, **place))
+        .count() as u32
 }
 
 /// Why a walk from a handle is refused where the walk list is too short: the handle is looked at first.
@@ -50,16 +54,15 @@ pub fn unwalked(places: &Places, handle: u32) -> Refusal
     }
 }
 
-// The size of a handle, where the list is long enough.
+// The size of a handle, where the list is long enough. The list is zero afterwards.
 fn sized(places: &Places, handle: u32, marks: &mut [u32]) -> Result<u32, Refusal>
     requires { places.now.capacity ≤ length marks.old }
-    ensures answer { Sized places.now handle marks.old result }
-    ensures past { drop places.now.capacity marks.new ≡ drop places.now.capacity marks.old }
+    ensures answer { (walk : List ℕ) → places.now.capacity ≤ length walk → Sized places.now handle walk result }
+    ensures cleared { marks.new ≡ replicate (length marks.old) 0 }
 {
-    let Some(place) = places.live(handle) else {
-        return Err(Refusal::NotLive);
-    };
-    let order = reach(places, place, marks);
+    let walk = Cleared { marks };
+    let place = places.live(handle).ok_or(Refusal::NotLive)?;
+    let order = reach(places, place, walk.marks);
     Ok(nodes(places, &order))
 }
 
@@ -72,9 +75,5 @@ pub fn size(places: &Places, handle: u32, walk: &mut [u32]) -> Result<u32, Refus
     if walk.len() < capacity {
         return Err(unwalked(places, handle));
     }
-    let guard = Cleared {
-        list: walk,
-        count: capacity,
-    };
-    sized(places, handle, guard.list)
+    sized(places, handle, &mut walk[..capacity])
 }

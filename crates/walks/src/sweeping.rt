@@ -1,4 +1,4 @@
-ghost use Rattle.std.specs.Prelude.{◌≡◌, ◌≤◌, length, drop};
+ghost use Rattle.std.specs.Prelude.{◌≡◌, ◌≤◌, length, replicate};
 ghost use Rattle.histories.specs.Steps.{wiped};
 ghost use Rattle.walks.specs.Walks.{root, KeptMarked, Swept, Sweeping};
 
@@ -18,8 +18,7 @@ fn is_root(places: &Places, place: u16) -> bool
 // Marks what is reached from places 0 and 1 and from those that are held.
 fn mark_kept(places: &Places, marks: &mut [u32])
     requires { places.now.capacity ≤ length marks.old }
-    ensures marked { KeptMarked places.now marks.new }
-    ensures past { drop places.now.capacity marks.new ≡ drop places.now.capacity marks.old }
+    ensures { KeptMarked places.now marks.new }
 {
     clear(marks, places.capacity() as usize);
     let mut order = Order::new();
@@ -30,14 +29,15 @@ fn mark_kept(places: &Places, marks: &mut [u32])
     }
 }
 
-// Frees what is not kept, where the list is long enough, and answers how many places that were.
+// Frees what is not kept, where the list is long enough, and answers how many places that were. The list is zero afterwards.
 fn swept(places: &mut Places, marks: &mut [u32]) -> u32
     requires { places.old.capacity ≤ length marks.old }
     ensures answer { Swept places.old places.new result }
-    ensures past { drop places.old.capacity marks.new ≡ drop places.old.capacity marks.old }
+    ensures cleared { marks.new ≡ replicate (length marks.old) 0 }
 {
-    mark_kept(places, marks);
-    u32::from(places.free_unmarked(marks))
+    let walk = Cleared { marks };
+    mark_kept(places, walk.marks);
+    u32::from(places.free_unmarked(walk.marks))
 }
 
 /// Frees every place that is not reached from places 0, 1 or one that is held, and answers how many it freed.
@@ -49,9 +49,5 @@ pub fn sweep(places: &mut Places, walk: &mut [u32]) -> Result<u32, Refusal>
     if walk.len() < capacity {
         return Err(Refusal::WalkTooShort);
     }
-    let guard = Cleared {
-        list: walk,
-        count: capacity,
-    };
-    Ok(swept(places, guard.list))
+    Ok(swept(places, &mut walk[..capacity]))
 }

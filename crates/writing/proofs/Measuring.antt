@@ -1,30 +1,19 @@
 -- How long the sheet of a walk is, and what stands in an output into which it is put. Assumes nothing.
-use Rattle.std.proofs.Common.{◌≡◌, ℕ, ◌+◌, ◌*◌, ◌≤◌, Bool, true, false, cond, List, [], ◌∷◌, ◌++◌, length, drop, sym, ap, ◌∙◌, subst, arith}
+use Rattle.std.proofs.Common.{◌≡◌, ℕ, ◌+◌, ◌*◌, ◌≤◌, List, [], ◌++◌, length, drop, sym, ap, ◌∙◌, subst, arith}
 use lib.Seq.{sets, sets-eq}
-use Rattle.std.proofs.lemmas.List.{length-take, length-append}
+use Rattle.std.proofs.lemmas.List.{length-append}
 use Rattle.diagrams.specs.Kinds.{Kind}
 use Rattle.diagrams.specs.Layouts.{Layout}
 use Rattle.diagrams.specs.Diagrams.{Diagram}
 use Rattle.diagrams.specs.Sheets.{visited, record_of, ender, sheet}
-use Rattle.diagrams.specs.Places.{Content, Stands}
+use Rattle.diagrams.specs.Places.{Stands}
 use Rattle.diagrams.proofs.Measures.{sheet_length}
 use Rattle.places.specs.declared.places.Places.{Places}
 use Rattle.places.specs.Tables.{holds}
-use Rattle.walks.specs.Walks.{Collected, is_node, node_count}
+use Rattle.walks.specs.Walks.{Collected, node_count}
 use Rattle.walks.proofs.Standing.{stand_length}
 use Rattle.walks.proofs.NodeCounts.{count_extent}
-use Rattle.writing.specs.declared.head.Head.{Head}
-use Rattle.writing.specs.Heads.{head_bytes}
 use Rattle.writing.specs.Records.{body, under_head}
-
--- No more places hold nodes than there are.
-pub nodes_within : (at : ℕ → Content) (hs : List ℕ) → node_count at hs ≤ length hs
-nodes_within at [] = omega arith
-nodes_within at (h ∷ hs) = omega (arith, one (is_node (at h)), nodes_within at hs)
-  where
-    one : (b : Bool) → cond b 1 0 ≤ 1
-    one true = omega arith
-    one false = omega arith
 
 -- The sheet of a diagram is as long as the walk from it says.
 walk_length : (K : Kind) (L : Layout) (t : Places) (marks order : List ℕ) (d : Diagram) → Collected t marks order (visited d [])
@@ -45,10 +34,6 @@ module _ (K : Kind) (L : Layout) (t : Places) (h place : ℕ) (marks order : Lis
 pub parts_length : (head : List ℕ) (d : Diagram) → length (under_head head d) ≡ length (record_of 1 head) + length (body d) + 6
 parts_length head d =
     omega (arith, length-append (record_of 1 head ++ body d) (ender (visited d [])), length-append (record_of 1 head) (body d))
-
--- A head has no more bytes than its array.
-pub head_few : (h : Head) → length (head_bytes h) ≤ 66
-head_few h = omega (arith, length-take h.count h.body, h.few)
 
 -- Bytes that are put at the front of an output.
 pub sets_front : (out bytes : List ℕ) → length bytes ≤ length out → sets out 0 bytes ≡ bytes ++ drop (length bytes) out

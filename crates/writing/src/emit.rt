@@ -49,7 +49,7 @@ pub fn put_records(
     ensures after { (d : Diagram) → Collected places.now marks.now (collected order.now) (visited d []) → result ≡ start + length (body d) }
 {
     let mut at = start;
-    for place in order.places() {
+    for place in order.as_slice() {
         at = put_record(places, marks, *place, out, at);
     }
     at

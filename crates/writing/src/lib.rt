@@ -5,5 +5,5 @@ mod emit;
 mod head;
 mod sheet;
 
-pub use head::Head;
+pub use head::{Head, head_of};
 pub use sheet::write;

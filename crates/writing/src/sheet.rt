@@ -1,4 +1,4 @@
-ghost use Rattle.std.specs.Prelude.{◌≡◌, ◌+◌, ◌*◌, ◌≤◌, [], length, drop};
+ghost use Rattle.std.specs.Prelude.{◌≡◌, ℕ, ◌+◌, ◌*◌, ◌≤◌, List, [], length, replicate};
 ghost use Rattle.std.proofs.lemmas.List.Edits.{sets};
 ghost use Rattle.diagrams.specs.Diagrams.{Diagram};
 ghost use Rattle.diagrams.specs.Sheets.{visited};
@@ -11,7 +11,7 @@ ghost use Rattle.writing.specs.Records.{under_head};
 ghost use Rattle.writing.specs.Writes.{Written};
 
 use crate::emit::put_records;
-use crate::head::Head;
+use crate::head::{Head, head_of};
 use kinds::Value;
 use layouts::Layout;
 use places::places::Places;
@@ -33,12 +33,12 @@ fn put_sheet(places: &Places, marks: &[u32], order: &Order, head: &Head, out: &m
     requires { (d : Diagram) × Collected places.now marks.now (collected order.now) (visited d []) × (length (under_head (head_bytes head.now) d) ≤ length out.old) }
     ensures { (d : Diagram) → Collected places.now marks.now (collected order.now) (visited d []) → out.new ≡ sets out.old 0 (under_head (head_bytes head.now) d) }
 {
-    let after_head = put_head(out, 0, head.bytes());
+    let after_head = put_head(out, 0, head.as_slice());
     let after_records = put_records(places, marks, order, out, after_head);
     put_end(out, after_records, order.len() as u16);
 }
 
-// Writes the sheet of a handle's rule, where the walk list is long enough.
+// Writes the sheet of a handle's rule, where the walk list is long enough. The list is zero afterwards.
 fn written<K: Value>(
     places: &Places,
     layout: &Layout,
@@ -47,18 +47,17 @@ fn written<K: Value>(
     output: &mut [u8],
 ) -> Result<u32, Refusal>
     requires { places.now.capacity ≤ length marks.old }
-    ensures answer { Written K.Value.kind (view layout.now) places.now handle marks.old output.old output.new result }
-    ensures past { drop places.now.capacity marks.new ≡ drop places.now.capacity marks.old }
+    ensures answer { (walk : List ℕ) → places.now.capacity ≤ length walk → Written K.Value.kind (view layout.now) places.now handle walk output.old output.new result }
+    ensures cleared { marks.new ≡ replicate (length marks.old) 0 }
 {
-    let Some(place) = places.live(handle) else {
-        return Err(Refusal::NotLive);
-    };
-    let order = reach(places, place, marks);
+    let walk = Cleared { marks };
+    let place = places.live(handle).ok_or(Refusal::NotLive)?;
+    let order = reach(places, place, walk.marks);
     let needed = measure(layout.size(), order.len(), nodes(places, &order));
     if output.len() < needed as usize {
         return Err(Refusal::OutputTooShort);
     }
-    put_sheet(places, marks, &order, &Head::of::<K>(layout), output);
+    put_sheet(places, walk.marks, &order, &head_of::<K>(layout), output);
     Ok(needed)
 }
 
@@ -77,9 +76,5 @@ pub fn write<K: Value>(
     if walk.len() < capacity {
         return Err(unwalked(places, handle));
     }
-    let guard = Cleared {
-        list: walk,
-        count: capacity,
-    };
-    written::<K>(places, layout, handle, guard.list, output)
+    written::<K>(places, layout, handle, &mut walk[..capacity], output)
 }

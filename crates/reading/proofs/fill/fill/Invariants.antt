@@ -8,7 +8,7 @@ use Rattle.reading.proofs.Placing.{Placed}
 use Rattle.reading.proofs.fill.fill.Given as goal
 
 -- The first records have their places.
-abbrev pub invariant-loop-i : goal.invariant-loop-i
-invariant-loop-i l =
-    (K : Kind) (L : Layout) (seen : List Diagram) → Ready K L l.bytes l.list seen → l.count ≡ length seen
-    → Placed l.initial.places l.places (take l.i seen) (collected l.order)
+abbrev pub invariant-loop-number : goal.invariant-loop-number
+invariant-loop-number l =
+    (K : Kind) (L : Layout) (seen : List Diagram) → Ready K L l.bytes l.records seen → length l.records ≡ length seen
+    → Placed l.initial.places l.places (take l.number seen) (collected l.order)

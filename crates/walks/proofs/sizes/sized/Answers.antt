@@ -4,14 +4,11 @@ use Rattle.places.specs.Tables.{holds}
 use Rattle.walks.proofs.NodeCounts.{count_extent}
 use Rattle.walks.proofs.sizes.sized.Goals as goal
 
-pub returns : goal.returns
-returns c =
-    let live = c.in-Some.ensures in record {
-      answer = (
-        live.1,
-        c.requires,
-        λ d p. c.nodes.ensures
-            ∙ count_extent c.args.places.now _ _ d (c.reach-order.ensures.walked d (subst (Stands (holds c.args.places.now) d) (sym live.0) p)),
-      );
-      past = c.reach-order.ensures.past;
-    }
+pub returns-clause-answer : goal.returns-clause-answer
+returns-clause-answer c = λ walk long.
+    let t = c.args.places.now in
+    let live = rw c.in_ok-place.ensures.ok_part at c.live.ensures in (
+      live.1,
+      long,
+      λ d p. c.nodes.ensures ∙ count_extent t _ _ d (c.reach-order.ensures.walked d (subst (Stands (holds t) d) (sym live.0) p)),
+    )

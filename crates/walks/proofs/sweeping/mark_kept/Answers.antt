@@ -1,6 +1,6 @@
-use Rattle.std.proofs.Common.{◌≡◌, ℕ, ◌+◌, drop, sym, refl, ap, ◌∙◌, subst, subst₂, arith}
+use Rattle.std.proofs.Common.{◌≡◌, ℕ, ◌+◌, sym, ap, subst, subst₂, arith}
 use Rattle.walks.specs.Orders.{collected}
-use Rattle.walks.proofs.Lists.{cleared_zero, cleared_past}
+use Rattle.walks.proofs.Lists.{cleared_zero}
 use Rattle.walks.proofs.Rooting.{Rooted, root_used, rooted_none, rooted_skip, rooted_root, rooted_all}
 use Rattle.walks.proofs.sweeping.mark_kept.Goals as goal
 use Rattle.walks.proofs.sweeping.mark_kept.Goals.{then-is_root, else-is_root}
@@ -10,11 +10,11 @@ loop-place-init c =
     let t = c.args.places.now in
     let marks = c.clear.new.list in
     let clean = cleared_zero t.capacity c.args.marks.now marks (rw c.capacity.ensures at c.clear.ensures) in
-    (subst (Rooted t 0 marks) (sym c.new-order.ensures) (rooted_none t marks clean), refl)
+    subst (Rooted t 0 marks) (sym c.new-order.ensures) (rooted_none t marks clean)
 
 pub collect-requires : goal.collect-requires
 collect-requires c =
-    let p = c.loop-place.invariant.0 in
+    let p = c.loop-place.invariant in
     record {
       used = root_used c.args.places.now c.loop-place.place (sym c.if-is_root.ensures);
       room = omega arith;
@@ -29,25 +29,15 @@ loop-place-preserved c =
     let order = collected c.loop-place.order in
     let p = c.loop-place.invariant in
     elim c.if-is_root.branch [
-      | then-is_root w ↦ (
-        subst₂ (Rooted t (i + 1)) (sym w.marks-is) (sym (ap collected w.order-is))
-            (rooted_root t i marks order p.0 w.collect.new.marks (collected w.collect.new.order) (sym w.if-is_root.ensures) w.collect.ensures),
-        ap (drop t.capacity) w.marks-is ∙ w.collect.ensures.past ∙ p.1,
-      )
-      | else-is_root w ↦ (
-        subst₂ (Rooted t (i + 1)) (sym w.marks-is) (sym (ap collected w.order-is)) (rooted_skip t i marks order p.0 (sym w.if-is_root.ensures)),
-        ap (drop t.capacity) w.marks-is ∙ p.1,
-      )
+      | then-is_root w ↦
+          subst₂ (Rooted t (i + 1)) (sym w.marks-is) (sym (ap collected w.order-is))
+          (rooted_root t i marks order p w.collect.new.marks (collected w.collect.new.order) (sym w.if-is_root.ensures) w.collect.ensures)
+      | else-is_root w ↦
+          subst₂ (Rooted t (i + 1)) (sym w.marks-is) (sym (ap collected w.order-is)) (rooted_skip t i marks order p (sym w.if-is_root.ensures))
     ]
 
 pub returns : goal.returns
 returns c =
     let t = c.args.places.now in
-    let marks = c.loop-place.marks in
-    let order = collected c.loop-place.order in
-    let p = c.loop-place.invariant in
     let all : c.loop-place.place ≡ t.capacity = omega arith in
-    record {
-      marked = rooted_all t marks order (subst (λ (i : ℕ). Rooted t i marks order) all p.0);
-      past = p.1 ∙ cleared_past t.capacity c.args.marks.now c.clear.new.list (rw c.capacity.ensures at c.clear.ensures);
-    }
+    rooted_all t c.loop-place.marks (collected c.loop-place.order) (subst (λ (i : ℕ). Rooted t i c.loop-place.marks (collected c.loop-place.order)) all c.loop-place.invariant)
