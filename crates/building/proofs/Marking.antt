@@ -155,7 +155,7 @@ pub record Reading (K : Kind) (L : Layout) (i level low high : ℕ) : Type 0 whe
 -- It is read off the layout, by the type of the mark's level.
 pub reading : (K : Kind) (L : Layout) (i level low high : ℕ) (t : Decomposition) → level ≡ L.level i → t ≡ L.type level → low ≡ mark_low K t
     → high ≡ mark_high K t → Reading K L i level low high
-reading K L i level low high t here typed is_low is_high =
+reading K L i l low high t here typed is_low is_high =
     let at : t ≡ L.type (L.level i) = typed ∙ ap L.type here in
     record { level_is = here; low_is = is_low ∙ ap (mark_low K) at; high_is = is_high ∙ ap (mark_high K) at }
 

@@ -1,8 +1,9 @@
 -- Restrictions: answered at once, by a sum, or from the children. Assumes nothing.
-use Rattle.std.proofs.Common.{◌≡◌, ℕ, zero, suc, ◌<◌, ◌≤◌, true, false, List, [], ◌∷◌, Some, None, Option, sym, refl, ap, ◌∙◌, subst, arith}
+use Rattle.std.proofs.Common.{◌≡◌, ℕ, zero, suc, ◌<◌, ◌≤◌, Bool, true, false, List, [], ◌∷◌, Some, None, Option, sym, refl, ap, ◌∙◌, subst, arith}
 use mathlib.Core.List.{Memᴰ}
 use Prim.Native.Nat.{compare, Ordering}
 use Rattle.std.proofs.lemmas.Bool.{false≢true}
+use Rattle.std.specs.Int.{from_bool}
 use Rattle.std.specs.List.{AllByRecursion}
 use Rattle.diagrams.specs.Kinds.{Kind}
 use Rattle.diagrams.specs.Layouts.{Decomposition, shannon, positive, negative, Layout}
@@ -19,21 +20,38 @@ use Rattle.histories.specs.Steps.{Keyed}
 use Rattle.histories.proofs.Sound.{Sound}
 use Rattle.places.specs.declared.places.Places.{Places}
 use Rattle.places.specs.Contents.{depth, in_use}
-use Rattle.places.specs.Tables.{holds, Used, Under, Extends}
+use Rattle.places.specs.Tables.{holds, Used, Under, Extends, Trusted}
 use Rattle.places.proofs.Extending.{stays, then, stands_still, under_higher, node_under}
-use Rattle.building.specs.declared.restrict.Start.{Start}
-use Rattle.building.specs.declared.restrict.Start.TheVariants.{Sum}
+use Rattle.building.specs.declared.restrict.Left.{Left}
+use Rattle.building.specs.declared.restrict.Left.TheVariants.{Child, Sum}
 use Rattle.building.specs.Work.{model}
 use Rattle.building.specs.Operations.{restrict_key}
 use Rattle.building.specs.Parts.{NoHigher, Joined}
 use Rattle.building.specs.Shortcuts.{floor}
 use Rattle.building.specs.Calls.{BroughtBack, Finished, Combined, Closed}
-use Rattle.building.specs.Restricting.{left_of, Restricted, Summed, Above, Starts}
+use Rattle.building.specs.Restricting.{left_of, Restricted}
 use Rattle.building.proofs.Seeing.{seen_stands, stands_seen}
 use Rattle.building.proofs.Working.{worked_within}
 use Rattle.building.proofs.Finishing.{none_held, PartsHeld, put_there, put_joined, worked_plain, finished_short, found_stands, found_answered, Way, way_start, way_step, way_stop, way_end}
 use Rattle.building.proofs.Beginning.{good_of}
 use Rattle.building.proofs.Splitting.{under_good}
+
+module _ (K : Kind) (L : Layout) (i c h : ℕ) where
+  -- The handle is a node of the mark, and the sum of its children x and y answers.
+  pub record Summed (t : Places) (x y : ℕ) : Type 0 where
+    pub node : holds t h ≡ node_at (L.level i) x y
+    pub left : left_of (L.type (L.level i)) c x y ≡ Sum x y
+
+  -- The handle is a node at level l, above the mark, with children x and y, and the store has no answer to trust.
+  pub record Above (t : Places) (f : Entries) (l x y : ℕ) : Type 0 where
+    pub node : holds t h ≡ node_at l x y
+    pub higher : l < L.level i
+    pub missed : (n : ℕ) → f (restrict_key h i c) ≡ Some n → Under t l n → ⊥
+
+  -- At a node of the mark: the child answers that is left, or the sum of the children is.
+  abbrev pub AtNode : Places → Entries → Left → Type 0
+  AtNode t f (Child n) = Restricted K L i c h t t f f (Some n)
+  AtNode t f (Sum x y) = Summed t x y
 
 -- A node's diagram, by its children.
 parts_of : (t : Places) (d : Diagram) (h l x y : ℕ) → Stands (holds t) d h → holds t h ≡ node_at l x y
@@ -150,15 +168,25 @@ module _ (K : Kind) (L : Layout) (i c h : ℕ) (t : Places) (f : Entries) (insid
       let q = left w.low w.high w.left w.right in
       record { answer = subst (λ z. Stands (holds t) z n) w.answer q.0; calls = w.calls ∙ q.1; short = w.short })
 
-  -- The store has the answer.
-  pub hit_restricted : {n : ℕ} → Under t (depth (holds t h)) n → f (restrict_key h i c) ≡ Some n → Restricted K L i c h t t f f (Some n)
-  hit_restricted {n} under found = record {
+  -- What the store is asked under the key and answers, if its answer is trusted.
+  pub hit_restricted : {l x y n : ℕ} {k : Key} {r : Option ℕ} → holds t h ≡ node_at l x y → k ≡ restrict_key h i c → r ≡ f k → Trusted t l r (Some n)
+      → Restricted K L i c h t t f f (Some n)
+  hit_restricted {n = n} e keyed asked found = record {
     kept = stays t;
-    inside = under;
+    inside = subst (λ l. Under t l n) (sym (ap depth e)) found.1;
     done = λ ok d sd p sound.
         found_answered (model L f p t) (restrict d i c) (restrict_key h i c) n sound (good_of f p t sound d h sd, inside, small)
-        (restrict_keyed L f p t d i c h sd) found;
+        (restrict_keyed L f p t d i c h sd) (ap f (sym keyed) ∙ sym asked ∙ found.0);
   }
+
+-- A node stands on its level.
+pub node_depth : (t : Places) (h l x y : ℕ) → holds t h ≡ node_at l x y → depth (holds t h) ≡ l
+node_depth t h l x y e = ap depth e
+
+-- A constant is 0 or 1.
+pub constant_small : (c : Bool) → from_bool c < 2
+constant_small false = omega arith
+constant_small true = omega arith
 
 -- The children of a node stand no higher than it.
 children_under : (t : Places) (h l x y : ℕ) → holds t h ≡ node_at l x y → Under t (depth (holds t h)) x × Under t (depth (holds t h)) y
@@ -168,7 +196,7 @@ children_under t h l x y e =
 
 module _ (K : Kind) (L : Layout) (i h : ℕ) (t : Places) (f : Entries) (inside : i < L.size) where
   choice : (x y : ℕ) → holds t h ≡ node_at (L.level i) x y → (s : Decomposition) (c : ℕ) → c < 2 → L.type (L.level i) ≡ s
-      → (Lawful K L → (d : Diagram) → Good K L 0 d → Stands (holds t) d h → AtMark K L i c t s x y d) → Starts K L i c h t f (left_of s c x y)
+      → (Lawful K L → (d : Diagram) → Good K L 0 d → Stands (holds t) d h → AtMark K L i c t s x y d) → AtNode K L i c h t f (left_of s c x y)
   choice x y e shannon zero small q facts = one_left K L i zero h t f inside small (children_under t h _ x y e).0 facts (λ a b sa sb. (sa, refl))
   choice x y e shannon (suc c) small q facts = one_left K L i (suc c) h t f inside small (children_under t h _ x y e).1 facts (λ a b sa sb. (sb, refl))
   choice x y e positive zero small q facts = one_left K L i zero h t f inside small (children_under t h _ x y e).0 facts (λ a b sa sb. (sa, refl))
@@ -177,12 +205,12 @@ module _ (K : Kind) (L : Layout) (i h : ℕ) (t : Places) (f : Entries) (inside 
   choice x y e negative (suc c) small q facts = one_left K L i (suc c) h t f inside small (children_under t h _ x y e).0 facts (λ a b sa sb. (sa, refl))
 
   -- What the code chooses at the mark's level.
-  pub here_starts : (c : ℕ) → c < 2 → (l x y : ℕ) → holds t h ≡ node_at l x y → l ≡ L.level i → (r : Start) (s : Decomposition)
-      → r ≡ left_of s c x y → s ≡ L.type l → Starts K L i c h t f r
-  here_starts c small l x y e at r s told typed =
+  pub at_node : (c : ℕ) → c < 2 → (l x y : ℕ) → holds t h ≡ node_at l x y → l ≡ L.level i → (r : Left) (s : Decomposition)
+      → r ≡ left_of s c x y → s ≡ L.type l → AtNode K L i c h t f r
+  at_node c small l x y e at r s told typed =
       let here : holds t h ≡ node_at (L.level i) x y = e ∙ ap (λ n. node_at n x y) at in
       let same : s ≡ L.type (L.level i) = typed ∙ ap L.type at in
-      subst (Starts K L i c h t f) (sym (told ∙ ap (λ s. left_of s c x y) same))
+      subst (AtNode K L i c h t f) (sym (told ∙ ap (λ s. left_of s c x y) same))
       (choice x y here (L.type (L.level i)) c small refl (at_mark K L i c h t f inside small x y here))
 
 -- Where the sum of the children is left, that sum is the one smaller call and its result the answer.
@@ -236,6 +264,15 @@ sum_restricted {K} {L} {i} {c} {h} {x} {y} {t} {u} {f} {g} {r} inside small s w 
       let told = sum_left K L (L.type (L.level i)) c x y s.left q.low q.high in
       passed ok (restrict d i c) (combine sum q.low q.high) (good, inside, small) (sym told.0 ∙ q.answer) (q.calls ∙ told.1) q.short
       f g p t u (restrict_key h i c) _ sound r (w.done ok q.low q.high q.left q.right p sound);
+}
+
+-- The code found a node above the mark, and asked the store in vain.
+pub above : {K : Kind} {L : Layout} {i c h l x y m : ℕ} {t : Places} {f : Entries} {k : Key} {r : Option ℕ} → holds t h ≡ node_at l x y → m ≡ L.level i
+    → l ≤ m → ¬ (l ≡ m) → k ≡ restrict_key h i c → r ≡ f k → Trusted t l r None → Above K L i c h t f l x y
+above {f = f} e at reached apart keyed asked missed = record {
+  node = e;
+  higher = omega arith;
+  missed = λ n q. missed n (asked ∙ ap f keyed ∙ q);
 }
 
 -- The children are restricted.

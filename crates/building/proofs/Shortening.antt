@@ -1,6 +1,6 @@
 -- The shortcuts by handle are those by diagram. Assumes nothing.
-use Rattle.std.proofs.Common.{◌≡◌, ℕ, ◌≤◌, true, refl, ◌∙◌, subst, arith}
-use mathlib.Core.Option.{Option, some}
+use Rattle.std.proofs.Common.{◌≡◌, ℕ, ◌≤◌, true, Some, None, Option, refl, ◌∙◌, subst, arith}
+use mathlib.Core.Option.{Option as Maybe, some}
 use Rattle.diagrams.specs.Kinds.{Kind}
 use Rattle.diagrams.specs.Diagrams.{Diagram, leaf, same}
 use Rattle.diagrams.specs.Tasks.{Operation, sum, difference, product}
@@ -12,14 +12,14 @@ use Rattle.places.specs.Contents.{depth, deep}
 use Rattle.places.specs.Tables.{holds, Used, Under}
 use Rattle.places.proofs.Holding.{deep_parts}
 use Rattle.places.proofs.Extending.{unshared, zero_under, under_higher}
-use Rattle.building.specs.declared.quick.Quick.{Quick}
-use Rattle.building.specs.declared.quick.Quick.TheVariants.{Handle, Value, Split}
+use Rattle.building.specs.declared.quick.Answer.{Answer}
+use Rattle.building.specs.declared.quick.Answer.TheVariants.{Handle, Value}
 use Rattle.building.specs.Shortcuts.{floor, Rooted, Short, Leafy, Quickly, Last}
 
-same_yes : (a b d : Diagram) (rest : Option Diagram) → a ≡ b → where_same a b d rest ≡ some d
+same_yes : (a b d : Diagram) (rest : Maybe Diagram) → a ≡ b → where_same a b d rest ≡ some d
 same_yes a b d rest e = elim (same a b) as (λ s. elim s [ yes _ ↦ some d | no _ ↦ rest ] ≡ some d) [ yes _ ↦ refl | no n ↦ absurd (n e) ]
 
-same_no : (a b d : Diagram) (rest : Option Diagram) → ¬ (a ≡ b) → where_same a b d rest ≡ rest
+same_no : (a b d : Diagram) (rest : Maybe Diagram) → ¬ (a ≡ b) → where_same a b d rest ≡ rest
 same_no a b d rest n = elim (same a b) as (λ s. elim s [ yes _ ↦ some d | no _ ↦ rest ] ≡ rest) [ yes e ↦ absurd (n e) | no _ ↦ refl ]
 
 content_most : (t : Places) (c : Content) → deep (holds t) c ≡ true → depth c ≤ 32
@@ -48,52 +48,52 @@ module _ (K : Kind) (t : Places) (a b : ℕ) where
   apart {x} {y} n d e p r q = n (one_handle (holds t) (unshared t) e x y (subst (λ (z : Diagram). Stands (holds t) z x) q p) r)
 
   module _ (o : Operation) where
-    pass : (r : Quick) (d e : Diagram) → quick K o d e ≡ leaves K o d e → Leafy K t o a b r d e → Short K t o a b r d e
-    pass (Handle h) d e q p = absurd p
-    pass (Value v) d e q p = q ∙ p
-    pass Split d e q p = q ∙ p
+    pass : (r : Option Answer) (d e : Diagram) → quick K o d e ≡ leaves K o d e → Leafy K t o a b r d e → Short K t o a b r d e
+    pass (Some (Handle h)) d e q p = absurd p
+    pass (Some (Value v)) d e q p = q ∙ p
+    pass None d e q p = q ∙ p
 
-    through : (r : Quick) → (Rooted K t → (d e : Diagram) → Stands (holds t) d a → Stands (holds t) e b → quick K o d e ≡ leaves K o d e) → Last K t o a b r → Quickly K t o a b r
+    through : (r : Option Answer) → (Rooted K t → (d e : Diagram) → Stands (holds t) d a → Stands (holds t) e b → quick K o d e ≡ leaves K o d e) → Last K t o a b r → Quickly K t o a b r
     through r q p = record { safe = p.safe; short = λ k d e x y. pass r d e (q k d e x y) (p.short d e x y) }
 
-  pub sum_left : Used t b → a ≡ 0 → Quickly K t sum a b (Handle b)
+  pub sum_left : Used t b → a ≡ 0 → Quickly K t sum a b (Some (Handle b))
   sum_left u q = record { safe = right u; short = λ k d e x y. (e, same_yes _ _ _ _ (one_diagram q d _ x k.zero), y) }
 
-  pub sum_right : Used t a → (a ≡ 0 → ⊥) → b ≡ 0 → Quickly K t sum a b (Handle a)
+  pub sum_right : Used t a → (a ≡ 0 → ⊥) → b ≡ 0 → Quickly K t sum a b (Some (Handle a))
   sum_right u n q = record { safe = left u; short = λ k d e x y. (d, same_no _ _ _ _ (apart n d _ x k.zero) ∙ same_yes _ _ _ _ (one_diagram q e _ y k.zero), x) }
 
-  pub sum_rest : (r : Quick) → (a ≡ 0 → ⊥) → (b ≡ 0 → ⊥) → Last K t sum a b r → Quickly K t sum a b r
+  pub sum_rest : (r : Option Answer) → (a ≡ 0 → ⊥) → (b ≡ 0 → ⊥) → Last K t sum a b r → Quickly K t sum a b r
   sum_rest r m n = through sum r (λ k d e x y. same_no _ _ _ _ (apart m d _ x k.zero) ∙ same_no _ _ _ _ (apart n e _ y k.zero))
 
-  pub difference_right : Used t a → b ≡ 0 → Quickly K t difference a b (Handle a)
+  pub difference_right : Used t a → b ≡ 0 → Quickly K t difference a b (Some (Handle a))
   difference_right u q = record { safe = left u; short = λ k d e x y. (d, same_yes _ _ _ _ (one_diagram q e _ y k.zero), x) }
 
-  pub difference_same : (b ≡ 0 → ⊥) → a ≡ b → Quickly K t difference a b (Handle 0)
+  pub difference_same : (b ≡ 0 → ⊥) → a ≡ b → Quickly K t difference a b (Some (Handle 0))
   difference_same n q = record {
     safe = zeroth;
     short = λ k d e x y. (leaf K.zero, same_no _ _ _ _ (apart n e _ y k.zero) ∙ same_yes _ _ _ _ (one_diagram q d e x y), k.zero);
   }
 
-  pub difference_rest : (r : Quick) → (b ≡ 0 → ⊥) → (a ≡ b → ⊥) → Last K t difference a b r → Quickly K t difference a b r
+  pub difference_rest : (r : Option Answer) → (b ≡ 0 → ⊥) → (a ≡ b → ⊥) → Last K t difference a b r → Quickly K t difference a b r
   difference_rest r m n = through difference r (λ k d e x y. same_no _ _ _ _ (apart m e _ y k.zero) ∙ same_no _ _ _ _ (apart n d e x y))
 
-  pub product_left : a ≡ 0 → Quickly K t product a b (Handle 0)
+  pub product_left : a ≡ 0 → Quickly K t product a b (Some (Handle 0))
   product_left q = record { safe = zeroth; short = λ k d e x y. (leaf K.zero, same_yes _ _ _ _ (one_diagram q d _ x k.zero), k.zero) }
 
-  pub product_right : (a ≡ 0 → ⊥) → b ≡ 0 → Quickly K t product a b (Handle 0)
+  pub product_right : (a ≡ 0 → ⊥) → b ≡ 0 → Quickly K t product a b (Some (Handle 0))
   product_right n q = record {
     safe = zeroth;
     short = λ k d e x y. (leaf K.zero, same_no _ _ _ _ (apart n d _ x k.zero) ∙ same_yes _ _ _ _ (one_diagram q e _ y k.zero), k.zero);
   }
 
-  pub one_left : Used t b → (a ≡ 0 → ⊥) → (b ≡ 0 → ⊥) → a ≡ 1 → Quickly K t product a b (Handle b)
+  pub one_left : Used t b → (a ≡ 0 → ⊥) → (b ≡ 0 → ⊥) → a ≡ 1 → Quickly K t product a b (Some (Handle b))
   one_left u m n q = record {
     safe = right u;
     short = λ k d e x y.
         (e, same_no _ _ _ _ (apart m d _ x k.zero) ∙ same_no _ _ _ _ (apart n e _ y k.zero) ∙ same_yes _ _ _ _ (one_diagram q d _ x k.one), y);
   }
 
-  pub one_right : Used t a → (a ≡ 0 → ⊥) → (b ≡ 0 → ⊥) → (a ≡ 1 → ⊥) → b ≡ 1 → Quickly K t product a b (Handle a)
+  pub one_right : Used t a → (a ≡ 0 → ⊥) → (b ≡ 0 → ⊥) → (a ≡ 1 → ⊥) → b ≡ 1 → Quickly K t product a b (Some (Handle a))
   one_right u m n i q = record {
     safe = left u;
     short = λ k d e x y. (
@@ -104,7 +104,7 @@ module _ (K : Kind) (t : Places) (a b : ℕ) where
     );
   }
 
-  pub product_rest : (r : Quick) → (a ≡ 0 → ⊥) → (b ≡ 0 → ⊥) → (a ≡ 1 → ⊥) → (b ≡ 1 → ⊥) → Last K t product a b r → Quickly K t product a b r
+  pub product_rest : (r : Option Answer) → (a ≡ 0 → ⊥) → (b ≡ 0 → ⊥) → (a ≡ 1 → ⊥) → (b ≡ 1 → ⊥) → Last K t product a b r → Quickly K t product a b r
   product_rest r m n i j = through product r (λ k d e x y.
       same_no _ _ _ _ (apart m d _ x k.zero) ∙ same_no _ _ _ _ (apart n e _ y k.zero) ∙ same_no _ _ _ _ (apart i d _ x k.one)
       ∙ same_no _ _ _ _ (apart j e _ y k.one))

@@ -24,9 +24,9 @@ use Rattle.places.proofs.Standing.{stands_used}
 use Rattle.places.proofs.Extending.{stays, then, stands_still, under_higher, under_still}
 use Rattle.building.specs.Work.{model}
 use Rattle.building.specs.Operations.{combine_key}
-use Rattle.building.specs.Parts.{crossing, NoHigher, Joined}
-use Rattle.building.specs.Shortcuts.{floor}
-use Rattle.building.specs.Calls.{Finished, Combined, Basis, Closed}
+use Rattle.building.specs.Parts.{crossing, NoHigher, Parted, Joined}
+use Rattle.building.specs.Shortcuts.{floor, Quickly}
+use Rattle.building.specs.Calls.{Finished, Combined, Unknown, Closed}
 use Rattle.building.proofs.Seeing.{stands_seen}
 use Rattle.building.proofs.Finishing.{Way, way_start, way_step, way_stop, way_end, put_joined, found_stands, sound_zero}
 use Rattle.building.proofs.Beginning.{rooted, good_of, combine_keyed}
@@ -66,6 +66,26 @@ module _ (K : Kind) (L : Layout) where
   -- The calls into which a combination splits at level l.
   abbrev pieces : ℕ → Operation → Diagram → Diagram → List Task
   pieces l o d e = low_part K L l o d e ∷ high_part K L l o d e ∷ on_the_way K L (low K L l d) (high K L l d) (low K L l e) (high K L l e) (L.type l) o
+
+-- A combination of a and b that splits at level l into the parts (la, ha) and (lb, hb): it is no shortcut, and the store has no answer to trust.
+pub record Basis (K : Kind) (L : Layout) (o : Operation) (a b : ℕ) (t : Places) (f : Entries) (l la ha lb hb : ℕ) : Type 0 where
+  pub small : l < 32
+  pub level : l ≡ floor t a b
+  pub first : Parted L t l a la ha
+  pub second : Parted L t l b lb hb
+  pub split : Quickly K t o a b None
+  pub missed : (x : ℕ) → f (combine_key o a b) ≡ Some x → Under t l x → ⊥
+
+pub basis : {K : Kind} {L : Layout} {o : Operation} {a b : ℕ} {t : Places} {f : Entries} {l la ha lb hb : ℕ} → l ≡ floor t a b → Unknown K o a b t f
+    → Parted L t l a la ha → Parted L t l b lb hb → Basis K L o a b t f l la ha lb hb
+basis {t = t} level unknown first second = record {
+  small = omega (arith, level, unknown.split.safe);
+  level = level;
+  first = first;
+  second = second;
+  split = unknown.split;
+  missed = λ x e under. unknown.missed x e (subst (λ n. Under t n x) level under);
+}
 
 -- What the handles a and b stand for, on a sound table.
 record Case (K : Kind) (L : Layout) (a b : ℕ) (t : Places) (f : Entries) : Type 0 where

@@ -1,5 +1,5 @@
 -- What combining and restricting handles does to the places and the store of a table. Assumes nothing.
-use Rattle.std.specs.Prelude.{◌≡◌, ℕ, ◌<◌, false, [], ◌∷◌, Some, None, Option}
+use Rattle.std.specs.Prelude.{◌≡◌, ℕ, false, [], ◌∷◌, Some, None, Option}
 use Rattle.diagrams.specs.Kinds.{Kind}
 use Rattle.diagrams.specs.Layouts.{Layout}
 use Rattle.diagrams.specs.Diagrams.{Lawful, Diagram}
@@ -12,12 +12,11 @@ use Rattle.histories.specs.Steps.{PlacesStay, EntriesStay, Needed, Worked}
 use Rattle.histories.proofs.Sound.{Sound}
 use Rattle.places.specs.declared.places.Places.{Places}
 use Rattle.places.specs.Tables.{holds, Under, Extends}
-use Rattle.building.specs.declared.quick.Quick.TheVariants as Quick
-use Rattle.building.specs.declared.combine.Begun.{Begun}
-use Rattle.building.specs.declared.combine.Begun.TheVariants.{Handle, Value, Parts}
+use Rattle.building.specs.declared.quick.Answer.{Answer}
+use Rattle.building.specs.declared.quick.Answer.TheVariants.{Handle, Value}
 use Rattle.building.specs.Work.{model}
 use Rattle.building.specs.Operations.{combine_key}
-use Rattle.building.specs.Parts.{NoHigher, Parted}
+use Rattle.building.specs.Parts.{NoHigher}
 use Rattle.building.specs.Shortcuts.{floor, Quickly}
 
 module _ (K : Kind) (L : Layout) where
@@ -46,20 +45,16 @@ module _ (K : Kind) (L : Layout) where
     pub inside : NoHigher u (floor t a b) r
     pub done : Lawful K L → (d e : Diagram) → Stands (holds t) d a → Stands (holds t) e b → Ended (combine o d e) (combine_key o a b) t u f g r
 
--- A combination of a and b that splits at level l into the parts (la, ha) and (lb, hb): it is no shortcut, and the store has no answer to trust.
-pub record Basis (K : Kind) (L : Layout) (o : Operation) (a b : ℕ) (t : Places) (f : Entries) (l la ha lb hb : ℕ) : Type 0 where
-  pub small : l < 32
-  pub level : l ≡ floor t a b
-  pub first : Parted L t l a la ha
-  pub second : Parted L t l b lb hb
-  pub split : Quickly K t o a b Quick.Split
-  pub missed : (x : ℕ) → f (combine_key o a b) ≡ Some x → Under t l x → ⊥
+-- A combination of a and b has no shortcut, and the store has no answer to trust.
+pub record Unknown (K : Kind) (o : Operation) (a b : ℕ) (t : Places) (f : Entries) : Type 0 where
+  pub split : Quickly K t o a b None
+  pub missed : (x : ℕ) → f (combine_key o a b) ≡ Some x → Under t (floor t a b) x → ⊥
 
--- How a combination begins: with its answer, with a value whose leaf is the answer, or with the parts of its operands.
-abbrev pub Begins : Kind → Layout → Operation → ℕ → ℕ → Places → Entries → Begun → Type 0
-Begins K L o a b t f (Handle h) = Combined K L o a b t t f f (Some h)
-Begins K L o a b t f (Value v) = Quickly K t o a b (Quick.Value v)
-Begins K L o a b t f (Parts l la ha lb hb) = Basis K L o a b t f l la ha lb hb
+-- What is known of a combination before it splits: its answer, or a value whose leaf is the answer, if a shortcut or the store has one.
+abbrev pub Known : Kind → Operation → ℕ → ℕ → Places → Entries → Option Answer → Type 0
+Known K o a b t f (Some (Handle h)) = (L : Layout) → Combined K L o a b t t f f (Some h)
+Known K o a b t f (Some (Value v)) = Quickly K t o a b (Some (Value v))
+Known K o a b t f None = Unknown K o a b t f
 
 -- What the store is offered at the end: the answer, if there is one.
 abbrev pub Closed : Entries → Entries → Key → Option ℕ → Type 0

@@ -5,10 +5,11 @@ ghost use Rattle.places.specs.Tables.{Used, Under};
 ghost use Rattle.stores.specs.Keys.{key_of};
 ghost use Rattle.building.specs.Operations.{meant};
 ghost use Rattle.building.specs.Parts.{crossing, Joined};
-ghost use Rattle.building.specs.Calls.{Combined, Begins, Closed};
+ghost use Rattle.building.specs.Shortcuts.{floor};
+ghost use Rattle.building.specs.Calls.{Combined, Known, Closed};
 
 use crate::operation::Operation;
-use crate::quick::{Quick, higher, shorten};
+use crate::quick::{Answer, higher, shorten};
 use crate::steps::{join, parts};
 use kinds::Value;
 use layouts::{Form, Layout};
@@ -19,58 +20,29 @@ use stores::{Key, Store};
 fn crosses(form: Form, operation: Operation) -> bool
     ensures { result ≡ crossing (decomposition form) (meant operation) }
 {
-    match (form, operation) {
-        (Form::PositiveDavio, Operation::Product) => true,
-        (Form::NegativeDavio, Operation::Product) => true,
-        _ => false,
-    }
+    matches!(operation, Operation::Product)
+        && matches!(form, Form::PositiveDavio | Form::NegativeDavio)
 }
 
-// How a combination begins: with its answer, with a value whose leaf is the answer, or with the parts of its operands at the higher of their levels.
-#[derive(Clone, Copy)]
-pub enum Begun {
-    Handle(u16),
-    Value(u32),
-    Parts {
-        level: u8,
-        la: u16,
-        ha: u16,
-        lb: u16,
-        hb: u16,
-    },
-}
-
-// Tries the shortcuts, then the store, then takes the parts.
-fn begin<K: Value, S: Store>(
+// The answer that a shortcut or the store has, where the higher of the levels is known.
+fn known<K: Value, S: Store>(
     places: &Places,
     store: &S,
-    layout: &Layout,
     operation: Operation,
+    level: u8,
     a: u16,
     b: u16,
-) -> Begun
+) -> Option<Answer>
+    requires level { level ≡ floor places.now a b }
     requires left { Used places.now a }
     requires right { Used places.now b }
-    ensures { Begins K.Value.kind (view layout.now) (meant operation) a b places.now (S.Store.entries store.now) result }
+    ensures { Known K.Value.kind (meant operation) a b places.now (S.Store.entries store.now) result }
 {
-    match shorten::<K>(places, operation, a, b) {
-        Quick::Handle(h) => return Begun::Handle(h),
-        Quick::Value(word) => return Begun::Value(word),
-        Quick::Split => {}
+    if let Some(answer) = shorten::<K>(places, operation, a, b) {
+        return Some(answer);
     }
-    let level = higher(places, a, b);
-    if let Some(h) = places.trusted(store.ask(operation.key(a, b)), level) {
-        return Begun::Handle(h);
-    }
-    let (la, ha) = parts(places, layout, level, a);
-    let (lb, hb) = parts(places, layout, level, b);
-    Begun::Parts {
-        level,
-        la,
-        ha,
-        lb,
-        hb,
-    }
+    let stored = places.trusted(store.ask(operation.key(a, b)), level)?;
+    Some(Answer::Handle(stored))
 }
 
 // The node of two parts, which the store is offered as the answer to a key.
@@ -107,17 +79,15 @@ pub fn combine<K: Value, S: Store>(
     requires right { Used places.old b }
     ensures { Combined K.Value.kind (view layout.now) (meant operation) a b places.old places.new (S.Store.entries store.old) (S.Store.entries store.new) result }
 {
-    let (level, la, ha, lb, hb) = match begin::<K, S>(places, store, layout, operation, a, b) {
-        Begun::Handle(h) => return Some(h),
-        Begun::Value(word) => return places.leaf(word),
-        Begun::Parts {
-            level,
-            la,
-            ha,
-            lb,
-            hb,
-        } => (level, la, ha, lb, hb),
-    };
+    let level = higher(places, a, b);
+    if let Some(answer) = known::<K, S>(places, store, operation, level, a, b) {
+        return match answer {
+            Answer::Handle(h) => Some(h),
+            Answer::Value(word) => places.leaf(word),
+        };
+    }
+    let (la, ha) = parts(places, layout, level, a);
+    let (lb, hb) = parts(places, layout, level, b);
     let key = operation.key(a, b);
     let low = combine::<K, S>(places, store, layout, operation, la, lb)?;
     if crosses(layout.form(level), operation) {

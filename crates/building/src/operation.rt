@@ -21,31 +21,33 @@ impl Operation {
         ensures { key_of result ≡ combine_key (meant self) left right }
     {
         Key {
-            operation: self.stored(),
+            operation: self.into(),
             left,
             right,
         }
     }
 
-    // The operation as stores name it.
-    fn stored(self) -> stores::Operation
-        ensures { number result ≡ operation_code (meant self) }
+    // The operation on two words of a kind.
+    pub fn apply<K: Value>(self, x: u32, y: u32) -> u32
+        ensures { result ≡ act K.Value.kind (meant self) x y }
     {
         match self {
-            Operation::Sum => stores::Operation::Sum,
-            Operation::Difference => stores::Operation::Difference,
-            Operation::Product => stores::Operation::Product,
+            Operation::Sum => K::sum(x, y),
+            Operation::Difference => K::difference(x, y),
+            Operation::Product => K::product(x, y),
         }
     }
 }
 
-// The operation on two words of a kind.
-pub fn apply<K: Value>(operation: Operation, x: u32, y: u32) -> u32
-    ensures { result ≡ act K.Value.kind (meant operation) x y }
-{
-    match operation {
-        Operation::Sum => K::sum(x, y),
-        Operation::Difference => K::difference(x, y),
-        Operation::Product => K::product(x, y),
+// The operation as stores name it.
+impl From<Operation> for stores::Operation {
+    ghost from_gives = { λ x y. number y ≡ operation_code (meant x) };
+
+    fn from(operation: Operation) -> stores::Operation {
+        match operation {
+            Operation::Sum => stores::Operation::Sum,
+            Operation::Difference => stores::Operation::Difference,
+            Operation::Product => stores::Operation::Product,
+        }
     }
 }

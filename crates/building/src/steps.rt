@@ -24,17 +24,14 @@ pub fn parts(places: &Places, layout: &Layout, level: u8, h: u16) -> (u16, u16)
     requires stands { Under places.now level h }
     ensures { Parted (view layout.now) places.now level h result.0 result.1 }
 {
-    if let Content::Node {
-        level: at,
-        low,
-        high,
-    } = places.content(h)
-    {
-        if at == level {
-            return (low, high);
-        }
+    match places.content(h) {
+        Content::Node {
+            level: at,
+            low,
+            high,
+        } if at == level => (low, high),
+        _ => (h, spare(layout.form(level), h)),
     }
-    (h, spare(layout.form(level), h))
 }
 
 // The node of two parts at a level, unless the drop rule removes it: what has the parts of a deeper handle is that handle.

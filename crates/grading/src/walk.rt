@@ -7,7 +7,7 @@ ghost use Rattle.layouts.specs.View.{view};
 ghost use Rattle.grading.specs.Frames.{pending};
 ghost use Rattle.grading.specs.Turns.{worth, opened};
 
-use crate::frames::Frames;
+use crate::frames::{Frames, open};
 use crate::turn::Turn;
 use kinds::Value;
 use layouts::{Layout, has_mark};
@@ -30,7 +30,7 @@ fn visit<K: Value>(
         Content::Leaf(word) => word,
         Content::Node { level, low, high } => {
             let turn = Turn::of(layout.form(level), has_mark(fruit, layout.mark(level)));
-            frames.open(turn, low, high);
+            open(frames, turn, low, high);
             K::ZERO
         }
         // A free place has no rule.
@@ -42,7 +42,8 @@ fn visit<K: Value>(
 pub fn grade<K: Value>(places: &Places, layout: &Layout, handle: u16, fruit: u32) -> u32
     ensures { (d : Diagram) → Stands (holds places.now) d handle → Good K.Value.kind (view layout.now) 0 d → result ≡ rule K.Value.kind (view layout.now) d fruit }
 {
-    let mut frames = Frames::begin(handle);
+    let mut frames = Frames::new();
+    frames.push(handle);
     let mut total = K::ZERO;
     while let Some(place) = frames.pop() {
         total = K::sum(total, visit::<K>(&mut frames, places, layout, place, fruit));

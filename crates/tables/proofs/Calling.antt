@@ -1,5 +1,6 @@
 -- Combining and restricting live handles take their steps. Assumes nothing.
-use Rattle.std.proofs.Common.{◌≡◌, ℕ, ◌<◌, ◌≤◌, [], Err, Option, Result, refl, subst, inl, inr, arith}
+use Rattle.std.proofs.Common.{◌≡◌, ℕ, zero, suc, ◌<◌, ◌≤◌, ◌==◌, [], Err, Option, Result, refl, subst, inl, inr, arith}
+use Rattle.std.specs.Int.{from_bool}
 use Rattle.diagrams.specs.Kinds.{Kind}
 use Rattle.diagrams.specs.Layouts.{Layout as Plan}
 use Rattle.diagrams.specs.Diagrams.{Lawful}
@@ -28,6 +29,12 @@ use Rattle.tables.specs.Models.{open_model, plain, gave}
 use Rattle.tables.specs.Settling.{Settled}
 use Rattle.tables.proofs.Refusing.{refused_step, dead_free}
 use Rattle.tables.proofs.Settling.{keyed_came, settled_build}
+
+-- A constant is 0 or 1, by whether it is 1.
+pub one_told : (c : ℕ) → c < 2 → from_bool (c == 1) ≡ c
+one_told zero small = refl
+one_told (suc zero) small = refl
+one_told (suc (suc c)) small = absurd (omega arith)
 
 -- Refused before anything is built: all is as before.
 module _ {V S : Type 0} (K : Kind) (entries : S → Entries) (start : Open V S) where
@@ -96,13 +103,14 @@ module _ {V S : Type 0} (K : Kind) (entries : S → Entries) (start : Open V S) 
       (here.done ok first.0 second.0 (stands_seen plan f opened start.places first.0 a first.2) (stands_seen plan f opened start.places second.0 b second.2)))
       end
 
-  -- By the place x of the handle h.
-  pub restricted_step : (h i c x : ℕ) → (x ≡ h) × Used start.places h → i < plan.size → c < 2
+  -- By the place x of the handle h, and by the number n of whether the constant is 1.
+  pub restricted_step : (h i c x n : ℕ) → (x ≡ h) × Used start.places h → n ≡ c → i < plan.size → c < 2
       → (u saved : Places) (s : S) (after : Open V S) (r : Option ℕ) (answer : Result ℕ Refusal) → saved ≡ start.places
-      → Restricted K plan i c x start.places u f (entries s) r → Settled entries (filled u s) after saved r answer
+      → Restricted K plan i n x start.places u f (entries s) r → Settled entries (filled u s) after saved r answer
       → Step K plan (open_model entries start) (plain (build (restrict h i c))) (gave answer) (open_model entries after)
-  restricted_step h i c x live inside small u saved s after r answer same done end =
-      let here : Restricted K plan i c h start.places u f (entries s) r = subst (λ n. Restricted K plan i c n start.places u f (entries s) r) live.0 done in
+  restricted_step h i c x n live told inside small u saved s after r answer same done end =
+      let here : Restricted K plan i c h start.places u f (entries s) r = 
+      subst (λ n. Restricted K plan i c n start.places u f (entries s) r) live.0 (subst (λ n. Restricted K plan i n x start.places u f (entries s) r) told done) in
       let whole = sound.good h (alive h live.1) in
       let task = Tasks.restrict whole.0 i c in
       let means : Means (open_model entries start) (restrict h i c) task = (whole.0, whole.2, refl) in

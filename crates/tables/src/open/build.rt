@@ -141,7 +141,7 @@ impl<K: Value, S: Store> Open<K, S> {
             &self.layout,
             place,
             mark as u8,
-            constant as u8,
+            constant == 1,
         );
         self.settle(&saved, answer)
     }

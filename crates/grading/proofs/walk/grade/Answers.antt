@@ -1,10 +1,12 @@
 -- Each turn moves what a place adds from the open places to the total. Assumes nothing.
-use Rattle.std.proofs.Common.{subst, ◌∙◌}
+use Rattle.std.proofs.Common.{ℕ, List, [], ◌∷◌, ◌++◌, ap, ◌∙◌, subst}
+use Rattle.std.proofs.lemmas.Bool.{false≢true}
 use Rattle.diagrams.specs.Diagrams.{Lawful}
 use Rattle.layouts.specs.declared.layout.Layout.{Layout}
 use Rattle.layouts.specs.View.{view}
 use Rattle.layouts.proofs.Laying.{layout_valid}
 use Rattle.grading.specs.Frames.{pending}
+use Rattle.grading.proofs.Pending.{last_first, none_left}
 use Rattle.grading.proofs.Stacking.{Stacked, opened_lighter}
 use Rattle.grading.proofs.Adding.{began, went, ended}
 use Rattle.grading.proofs.walk.grade.Given.{Over}
@@ -14,21 +16,22 @@ lawful : (g : Over) (y : Layout) → Lawful g.K.Value.kind (view y)
 lawful g y = record { laws = g.K.Value.laws; valid = layout_valid y }
 
 pub loop-place-init : goal.loop-place-init
-loop-place-init g c = began _ _ (lawful g c.args.layout.now) _ _ _ _ _ c.begin-frames.ensures (c.ZERO-total.ensures ∙ g.met.K.Value.zero_of_kind)
+loop-place-init g c = began _ _ (lawful g c.args.layout.now) _ _ _ _ _
+    (last_first _ [] _ (c.push.ensures.items ∙ ap (λ (xs : List ℕ). xs ++ (c.args.handle ∷ [])) c.new-frames.ensures)) (c.ZERO-total.ensures ∙ g.met.K.Value.zero_of_kind)
 
 pub visit-requires : goal.visit-requires
-visit-requires g c = (subst (Stacked c.args.places.now) c.in-Some.ensures c.loop-place.invariant.stacked).0
+visit-requires g c = (subst (Stacked c.args.places.now) (last_first _ _ _ c.in-Some.ensures.items) c.loop-place.invariant.stacked).0
 
 pub loop-place-smaller : goal.loop-place-smaller
 loop-place-smaller g c =
     let t = c.args.places.now in
-    rw (c.visit.ensures.opens, c.in-Some.ensures)
+    rw (c.visit.ensures.opens, last_first _ _ _ c.in-Some.ensures.items)
     (opened_lighter t (view c.args.layout.now) c.args.fruit c.in-Some.place (pending c.pop.new.self))
 
 pub loop-place-preserved : goal.loop-place-preserved
 loop-place-preserved g c =
-    went _ _ (lawful g c.args.layout.now) _ _ _ _ _ _ _ _ _ _ c.in-Some.ensures c.visit.ensures.gives c.visit.ensures.opens
+    went _ _ (lawful g c.args.layout.now) _ _ _ _ _ _ _ _ _ _ (last_first _ _ _ c.in-Some.ensures.items) c.visit.ensures.gives c.visit.ensures.opens
     c.sum-total.ensures c.loop-place.invariant
 
 pub returns : goal.returns
-returns g c = ended _ _ (lawful g c.args.layout.now) _ _ _ _ _ c.in_default.ensures.0 c.loop-place.invariant
+returns g c = ended _ _ (lawful g c.args.layout.now) _ _ _ _ _ (none_left _ (λ some. false≢true (c.in_default.ensures.variant.1 some))) c.loop-place.invariant

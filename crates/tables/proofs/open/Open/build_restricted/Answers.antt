@@ -3,7 +3,7 @@ use Rattle.diagrams.specs.Diagrams.{Lawful}
 use Rattle.histories.proofs.Reachability.{keeps}
 use Rattle.layouts.specs.View.{view}
 use Rattle.layouts.proofs.Laying.{layout_valid}
-use Rattle.tables.proofs.Calling.{restricted_dead, restricted_beyond, restricted_step}
+use Rattle.tables.proofs.Calling.{one_told, restricted_dead, restricted_beyond, restricted_step}
 use Rattle.tables.proofs.open.Open.build_restricted.Goals as goal
 
 pub returns-in_default : goal.returns-in_default
@@ -28,6 +28,6 @@ returns g c =
     let inside : c.args.mark < start.layout.size = omega arith in
     let small : c.args.constant < 2 = omega arith in
     keeps ok (λ sound.
-    restricted_step g.K.Value.kind g.S.Store.entries start ok sound c.args.handle c.args.mark c.args.constant c.in-Some.place
-    c.in-Some.ensures inside small c.restrict-answer.new.places _ c.restrict-answer.new.store c.settle.new.self
+    restricted_step g.K.Value.kind g.S.Store.entries start ok sound c.args.handle c.args.mark c.args.constant c.in-Some.place _
+    c.in-Some.ensures (one_told c.args.constant small) inside small c.restrict-answer.new.places _ c.restrict-answer.new.store c.settle.new.self
     c.restrict-answer.result c.settle.result c.save-saved.ensures c.restrict-answer.ensures c.settle.ensures)
