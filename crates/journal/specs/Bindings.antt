@@ -1,14 +1,14 @@
 -- What names are bound to. Assumes nothing.
 use Rattle.std.specs.Prelude.{◌≡◌, ℕ, cond, List, Some, Option}
+use Rattle.std.specs.BTreeMap.{get_by_text}
 use Rattle.std.specs.Str.{bytes_eq as same_text}
 use Rattle.journal.specs.declared.names.Names.{Names}
 use Rattle.journal_words.specs.declared.command.Operand.{Operand}
 use Rattle.journal_words.specs.declared.command.Operand.TheVariants.{Number, Name}
-use Rattle.text_map.specs.Maps.{value_at}
 
 -- the handle that a name is bound to
 abbrev pub handle_of : Names → List ℕ → Option ℕ
-handle_of names w = value_at names.handles w
+handle_of names w = get_by_text names.handles w
 
 -- the handle that an operand means: its number, or what its name is bound to
 abbrev pub meant : Names → Operand → Option ℕ

@@ -4,11 +4,11 @@ ghost use Rattle.journal.specs.Bindings.{handle_of, Rebinds, Keeps, meant};
 
 use journal_words::command::Operand;
 use std::alloc::{AllocError, Global};
-use text_map::map::TextMap;
+use std::collections::BTreeMap;
 
 #[derive(Drop)]
 pub struct Names {
-    handles: TextMap,
+    handles: BTreeMap<String, u32>,
 }
 
 impl Names {
@@ -17,7 +17,7 @@ impl Names {
         ensures { (w : List ℕ) → handle_of result w ≡ None }
     {
         Names {
-            handles: TextMap::new(heap),
+            handles: BTreeMap::new(heap),
         }
     }
 
@@ -25,7 +25,7 @@ impl Names {
     pub fn find(&self, name: &str) -> Option<u32>
         ensures { result ≡ handle_of self.now name.now }
     {
-        self.handles.get(name)
+        self.handles.get(name).copied()
     }
 
     // The handle that an operand means: its number, or what its name is bound to.
@@ -39,17 +39,20 @@ impl Names {
     }
 
     // Binds the name to the handle, in place of what it was bound to; without memory for it, all stays.
+    #[tactic(auto, using(std::proofs::lemmas::Map::Text::text_keys))]
     pub fn bind(&mut self, heap: Global, name: &str, handle: u32) -> Result<(), AllocError>
         ensures { MatchResult result (λ _. Rebinds self.old name.now (Some handle) self.new) (λ _. Keeps self.old self.new) }
     {
         let key = String::from_str(heap, name)?;
-        self.handles.insert(key, handle)
+        self.handles.insert(key, handle)?;
+        Ok(())
     }
 
     // Leaves the name unbound.
+    #[tactic(auto, using(std::proofs::lemmas::Map::Text::text_keys))]
     pub fn unbind(&mut self, name: &str)
         ensures { Rebinds self.old name.now None self.new }
     {
-        self.handles.remove(name);
+        let _was = self.handles.remove(name);
     }
 }

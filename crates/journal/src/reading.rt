@@ -7,7 +7,7 @@ ghost use Rattle.journal.specs.Lines as lines;
 ghost use Rattle.journal.specs.Lines.{line_said, meaning};
 
 use journal_text::mistake::Mistake;
-use journal_text::scan::{Class, is_byte, run};
+use journal_text::scan::{Class, split_run};
 use journal_words::asking::{begin, command};
 use journal_words::command::Line;
 use journal_words::operands::name;
@@ -20,7 +20,7 @@ use journal_words::words::Words;
 pub fn parse(line: &[u8]) -> Result<Option<Line<'_>>, Mistake>
     ensures { answered (option_map line_said) result ≡ meaning line.now }
 {
-    let (text, _) = line.split_at(run(line, Class::Not(b'#')));
+    let (text, _) = split_run(line, Class::Not(b'#'));
     let mut words = Words { rest: text };
     let Some(first) = words.next() else {
         return Ok(None);
@@ -34,7 +34,7 @@ fn after_first<'a>(first: &'a [u8], words: Words<'a>) -> Result<Line<'a>, Mistak
 {
     let mut after = words;
     match after.next() {
-        Some(second) if is_byte(second, b'=') => bound(first, after),
+        Some(b"=") => bound(first, after),
         _ => unbound(first, words),
     }
 }
@@ -55,21 +55,14 @@ fn unbound<'a>(word: &[u8], words: Words<'a>) -> Result<Line<'a>, Mistake>
 fn bound<'a>(word: &'a [u8], words: Words<'a>) -> Result<Line<'a>, Mistake>
     ensures { answered line_said result ≡ lines.bound word.now (left words.entry) }
 {
-    match name(word) {
-        Some(name) => bound_to(name, words),
-        None => Err(Mistake::BadName),
-    }
+    bound_to(name(word).ok_or(Mistake::BadName)?, words)
 }
 
 // What follows `NAME =`.
-fn bound_to<'a>(name: &'a str, words: Words<'a>) -> Result<Line<'a>, Mistake>
+fn bound_to<'a>(name: &'a str, mut words: Words<'a>) -> Result<Line<'a>, Mistake>
     ensures { answered line_said result ≡ lines.bound_to name.now (left words.entry) }
 {
-    let mut words = words;
-    let Some(word) = words.next() else {
-        return Err(Mistake::MissingCommand);
-    };
-    let verb = begin(word)?;
+    let verb = begin(words.next().ok_or(Mistake::MissingCommand)?)?;
     if !verb.answers_handle() {
         return Err(Mistake::NoHandle);
     }

@@ -1,44 +1,42 @@
--- The number that digits write, read from the left. Assumes nothing.
-use Rattle.std.proofs.Common.{◌≡◌, ℕ, zero, suc, ◌+◌, ◌-◌, ◌*◌, ◌^◌, ◌<◌, ◌≤◌, min, Bool, true, ◌&&◌, ltb, leb, List, [], ◌∷◌, length, get_or, take, Ok, Err, ap, ◌∙◌, arith}
+-- The number that digits write. Assumes nothing.
+use Rattle.std.proofs.Common.{◌≡◌, ℕ, ◌+◌, ◌-◌, ◌*◌, ◌^◌, ◌<◌, Bool, true, false, cond, ◌&&◌, ltb, leb, List, length, Ok, Err, Result, fold, refl, ap, ◌∙◌, inl, inr, arith, rules}
 use Rattle.std.specs.List.{list_all}
-use Rattle.std.proofs.lemmas.List.Sums.{fold_more}
-use Rattle.std.proofs.lemmas.List.{take_all}
-use Rattle.std.proofs.lemmas.Bool.{and_parts, and_from, leb-true, lt-ltb, le-ltb}
-use Rattle.journal_text.specs.declared.mistake.Mistake.TheVariants.{OutOfRange}
+use Rattle.std.specs.Result.{OkIff, result_or}
+use Rattle.std.specs.Str.Parse.{ParsesUnsigned}
+use Rattle.std.proofs.lemmas.Bool.{and_parts, and_from, leb-true, ltb-true, lt-ltb, le-ltb}
+use Rattle.std.proofs.lemmas.Str.Parse.{IsNumeralModel, numerals_by_fold, parse_digits}
+use Rattle.journal_text.proofs.Ascii.{is_text}
+use Rattle.journal_text.specs.declared.mistake.Mistake.TheVariants.{NotANumber, OutOfRange}
 use Rattle.journal_text.specs.declared.scan.Class.TheVariants.{Digit}
 use Rattle.journal_text.specs.Numbers.{value, decimal}
-use Rattle.journal_text.specs.Scans.{within}
+use Rattle.journal_text.specs.Scans.{within, Shows}
 
--- what every byte passes, the byte at i does
-pub at_pass : (p : ℕ → Bool) (bs : List ℕ) (i : ℕ) → list_all p bs ≡ true → i < length bs → p (get_or bs i 0) ≡ true
-at_pass p [] i h lt = absurd (omega arith)
-at_pass p (b ∷ bs) zero h lt = (and_parts (p b) (list_all p bs) h).0
-at_pass p (b ∷ bs) (suc i) h lt = at_pass p bs i (and_parts (p b) (list_all p bs) h).1 (omega arith)
+-- what is not digits alone is no number
+pub no_number : (w : List ℕ) → (0 < length w → list_all (within Digit) w ≡ true → ⊥) → Err NotANumber ≡ decimal w
+no_number w h = by (ltb 0 (length w)) (list_all (within Digit) w) (ltb-true 0 (length w)) refl
+  where
+    by : (s t : Bool) → (s ≡ true → 0 < length w) → list_all (within Digit) w ≡ t → Err NotANumber ≡ cond (s && t) (cond (ltb (value w) (2 ^ 32)) (Ok (value w)) (Err OutOfRange)) (Err NotANumber)
+    by true true some all = absurd (h (some refl) all)
+    by true false some all = refl
+    by false t some all = refl
 
--- a digit's code
-pub digit_code : (w : List ℕ) (i : ℕ) → list_all (within Digit) w ≡ true → i < length w → (48 ≤ get_or w i 0) × (get_or w i 0 ≤ 57)
-digit_code w i h lt =
-    let t = and_parts (leb 48 (get_or w i 0)) (leb (get_or w i 0) 57) (at_pass (within Digit) w i h lt) in
-    (leb-true 48 (get_or w i 0) t.0, leb-true (get_or w i 0) 57 t.1)
+-- a word and what is shown of it are the same number
+pub same_number : (w text : List ℕ) → Shows w text → decimal text ≡ decimal w
+same_number w text (inl e) = ap decimal e
+same_number w text (inr (e, bad)) =
+    ap decimal e ∙ no_number w (λ _ all. bad (is_text (within Digit) (λ b h. omega (arith, leb-true b 57 (and_parts (leb 48 b) (leb b 57) h).1)) w all))
 
--- one digit more, up to a limit
-pub digit_more : (w : List ℕ) (i v d n limit : ℕ) → i < length w → v ≡ min (value (take i w)) limit → d ≡ get_or w i 0 - 48 → n ≡ min (v * 10 + d) limit → n ≡ min (value (take (i + 1) w)) limit
-digit_more w i v d n limit lt e at next =
-    let more = fold_more (λ n d. n * 10 + (d - 48)) 0 w i 0 lt in omega (arith, more)
+-- digits, and the number that they write
+digits_model : IsNumeralModel (λ w. list_all (within Digit) w ≡ true) value
+digits_model = numerals_by_fold _ (search rules) (fold (λ n d. n * 10 + (d - 48))) (search rules)
 
-module _ (w : List ℕ) (v i : ℕ) (some : 0 < length w) (digits : list_all (within Digit) w ≡ true) (end : length w ≤ i) (is : v ≡ min (value (take i w)) (2 ^ 32)) where
-  whole : v ≡ min (value w) (2 ^ 32)
-  whole = is ∙ ap (λ l. min (value l) (2 ^ 32)) (take_all i w end)
+-- digits parse as their number, unless it is out of range
+pub parsed : {E : Type 0} (w : List ℕ) (r : Result ℕ E) → 0 < length w → list_all (within Digit) w ≡ true → ParsesUnsigned 32 10 w r → result_or r (Err OutOfRange) ≡ decimal w
+parsed w r some all h = by r (parse_digits digits_model 32 w r h all)
+  where
+    passes : (ltb 0 (length w) && list_all (within Digit) w) ≡ true
+    passes = and_from (ltb 0 (length w)) (list_all (within Digit) w) (lt-ltb 0 (length w) some) all
 
-  passes : (ltb 0 (length w) && list_all (within Digit) w) ≡ true
-  passes = and_from (ltb 0 (length w)) (list_all (within Digit) w) (lt-ltb 0 (length w) some) digits
-
-  -- in range
-  pub in_range : v < 2 ^ 32 → Ok v ≡ decimal w
-  in_range low =
-      let same : v ≡ value w = omega (arith, whole) in
-      rw (passes, lt-ltb (value w) (2 ^ 32) (omega (arith, whole)), ← same)
-
-  -- out of range
-  pub out_of_range : 2 ^ 32 ≤ v → Err OutOfRange ≡ decimal w
-  out_of_range high = rw (passes, le-ltb (value w) (2 ^ 32) (omega (arith, whole)))
+    by : {E : Type 0} (r : Result ℕ E) → OkIff r ((0 < length w) × (value w < 2 ^ 32)) (value w) → result_or r (Err OutOfRange) ≡ decimal w
+    by (Ok n) is = rw (passes, lt-ltb (value w) (2 ^ 32) is.0.1, is.1)
+    by (Err e) is = let far : value w < 2 ^ 32 → ⊥ = λ near. is (some, near) in rw (passes, le-ltb (value w) (2 ^ 32) (omega arith))

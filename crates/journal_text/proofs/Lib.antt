@@ -1,3 +1,3 @@
+pub mod Ascii
 pub mod Counting
 pub mod Pairs
-pub mod Scanning

@@ -1,8 +1,12 @@
 -- Hex, read a pair at a time. Assumes nothing.
-use Rattle.std.proofs.Common.{◌≡◌, ℕ, zero, suc, ◌+◌, ◌-◌, ◌*◌, ◌/◌, ◌<◌, ◌≤◌, true, List, [], ◌∷◌, ◌++◌, length, get_or, take, drop, is_ok, Some, None, Ok, Err, Option, Result, sym, refl, ap, ◌∙◌, subst, append_assoc, add-one, arith, Bor}
+use Rattle.std.proofs.Common.{◌≡◌, ℕ, zero, suc, ◌+◌, ◌/◌, ◌<◌, ◌≤◌, min, List, [], ◌∷◌, ◌++◌, length, get_or, take, Some, None, Ok, Err, Option, Result, sym, refl, ap, ◌∙◌, append_assoc, add-one, arith, Bor}
 use Rattle.std.proofs.lemmas.List.{take_all}
+use Rattle.std.specs.Option.{ok_or}
+use Rattle.std.specs.declared.slice.Chunks.{Chunks}
+use Rattle.std.specs.Slice.Iter.{chunks_rest, chunks_size, chunks_steps}
+use Rattle.journal_text.specs.declared.mistake.Mistake.TheVariants.{BadHex}
 use Rattle.journal_text.specs.declared.mistake.Mistake.{Mistake}
-use Rattle.journal_text.specs.Hex.{hex_digit, hex_value, before, bytes_of, Begins, digits, hex_text}
+use Rattle.journal_text.specs.Hex.{hex_digit, hex_value, pair_of, byte_of, before, bytes_of, digits, hex_text}
 
 -- bytes before the bytes that follow
 abbrev pub follows : List ℕ → Result (List ℕ) Mistake → Result (List ℕ) Mistake
@@ -14,73 +18,40 @@ pub follows_more : (bs : List ℕ) (b : ℕ) (more : Result (List ℕ) Mistake) 
 follows_more bs b (Ok more) = ap Ok (sym (append_assoc bs (b ∷ []) more))
 follows_more bs b (Err e) = refl
 
--- both are bytes, or both the same mistake
-abbrev pub SameEnd : Result (List ℕ) Mistake → Result (List ℕ) Mistake → Type 0
-SameEnd (Ok bs) (Ok more) = Unit {0}
-SameEnd (Ok bs) (Err e) = ⊥
-SameEnd (Err d) (Ok more) = ⊥
-SameEnd (Err d) (Err e) = d ≡ e
-
--- the same as itself
-pub same_end : (r : Result (List ℕ) Mistake) → SameEnd r r
-same_end (Ok bs) = tt
-same_end (Err e) = refl
-
--- a byte more or less ends the same
-end_more : (r more : Result (List ℕ) Mistake) (b : ℕ) → SameEnd r (before (Some b) more) → SameEnd r more
-end_more (Ok bs) (Ok more) b h = tt
-end_more (Ok bs) (Err e) b h = h
-end_more (Err d) (Ok more) b h = h
-end_more (Err d) (Err e) b h = h
-
--- what ends as bytes does is bytes
-pub end_ok : (r more : Result (List ℕ) Mistake) → more ≡ Ok [] → SameEnd r more → is_ok r ≡ true
-end_ok (Ok bs) more e h = refl
-end_ok (Err d) more e h = absurd (subst (SameEnd (Err d)) e h)
-
--- what ends as a mistake does is that mistake
-pub end_err : (r more : Result (List ℕ) Mistake) (m : Mistake) → more ≡ Err m → SameEnd r more → r ≡ Err m
-end_err (Ok bs) more m e h = absurd (subst (SameEnd (Ok bs)) e h)
-end_err (Err d) more m e h = ap Err (subst (SameEnd (Err d)) e h)
-
 -- no bytes before
 pub follows_none : (r : Result (List ℕ) Mistake) → follows [] r ≡ r
 follows_none (Ok bs) = refl
 follows_none (Err e) = refl
 
--- the first byte, where there is one
-begins_some : (ds : List ℕ) (o : Option (ℕ × Bor (List ℕ))) (b : ℕ) (rest : Bor (List ℕ)) → Begins ds (Ok o) → o ≡ Some (b, rest) → (bytes_of ds ≡ before (Some b) (bytes_of rest.now)) × (length rest.now < length ds)
-begins_some ds o b rest h e = subst (λ p. Begins ds (Ok p)) e h
+-- a pair before the bytes that follow it
+abbrev pub paired : Result ℕ Mistake → Result (List ℕ) Mistake → Result (List ℕ) Mistake
+paired (Ok b) more = before (Some b) more
+paired (Err e) more = Err e
 
--- where there is none, there are no bytes
-pub begins_none : (ds : List ℕ) (o : Option (ℕ × Bor (List ℕ))) → Begins ds (Ok o) → o ≡ None → bytes_of ds ≡ Ok []
-begins_none ds o h e = ap bytes_of (subst (λ p. Begins ds (Ok p)) e h)
+-- the first pair of digits, and those after it
+first_pair : (ds pair rest : List ℕ) → ds ≡ pair ++ rest → length pair ≡ min 2 (length ds) → 0 < length ds → bytes_of ds ≡ paired (byte_of pair) (bytes_of rest)
+first_pair ds [] rest e n some = absurd (omega arith)
+first_pair ds (h ∷ []) [] e n some = ap bytes_of e
+first_pair ds (h ∷ []) (d ∷ rest) e n some = absurd (omega (arith, ap length e))
+first_pair ds (h ∷ l ∷ []) rest e n some = ap bytes_of e ∙ by (pair_of (hex_value h) (hex_value l))
+  where
+    by : (o : Option ℕ) → before o (bytes_of rest) ≡ paired (ok_or o BadHex) (bytes_of rest)
+    by None = refl
+    by (Some b) = refl
+first_pair ds (h ∷ l ∷ m ∷ pair) rest e n some = absurd (omega arith)
 
-module _ (ds : List ℕ) (o : Option (ℕ × Bor (List ℕ))) (b : ℕ) (rest : Bor (List ℕ)) (first : Begins ds (Ok o)) (is : o ≡ Some (b, rest)) where
-  -- a turn takes digits away
-  pub fewer : length rest.now < length ds
-  fewer = (begins_some ds o b rest first is).1
+module _ (ds : List ℕ) (s t : Chunks ℕ) (pair : Bor (List ℕ)) (step : chunks_steps s (Some pair) t) (size : chunks_size s ≡ 2) (bs : List ℕ) (so_far : bytes_of ds ≡ follows bs (bytes_of (chunks_rest s))) where
+  -- the pair comes next
+  next : bytes_of ds ≡ follows bs (paired (byte_of pair.now) (bytes_of (chunks_rest t)))
+  next = so_far ∙ ap (follows bs) (first_pair (chunks_rest s) pair.now (chunks_rest t) step.1.0 (omega (arith, step.1.1)) step.1.2)
 
-  -- a turn that checks
-  pub end_turn : (r : Result (List ℕ) Mistake) → SameEnd r (bytes_of ds) → SameEnd r (bytes_of rest.now)
-  end_turn r h = end_more r (bytes_of rest.now) b (subst (SameEnd r) (begins_some ds o b rest first is).0 h)
+  -- a pair of two digits is a byte more
+  pub byte_more : (b : ℕ) → byte_of pair.now ≡ Ok b → bytes_of ds ≡ follows (bs ++ (b ∷ [])) (bytes_of (chunks_rest t))
+  byte_more b is = next ∙ ap (λ r. follows bs (paired r (bytes_of (chunks_rest t)))) is ∙ follows_more bs b (bytes_of (chunks_rest t))
 
-  -- a turn that keeps the byte
-  pub byte_turn : (r : Result (List ℕ) Mistake) (bs more : List ℕ) → r ≡ follows bs (bytes_of ds) → more ≡ bs ++ (b ∷ []) → r ≡ follows more (bytes_of rest.now)
-  byte_turn r bs more h e = h ∙ ap (follows bs) (begins_some ds o b rest first is).0 ∙ follows_more bs b (bytes_of rest.now) ∙ ap (λ l. follows l (bytes_of rest.now)) (sym e)
-
--- no digits
-pub no_digits : (ds : List ℕ) → length ds < 1 → ds ≡ []
-no_digits [] h = refl
-no_digits (d ∷ ds) h = absurd (omega arith)
-
--- two digits and those after them
-pub two_digits : (ds : List ℕ) (h l : ℕ) → 2 ≤ length ds → hex_value (get_or ds 0 0) ≡ Some h → hex_value (get_or ds 1 0) ≡ Some l → (bytes_of ds ≡ before (Some (h * 16 + l)) (bytes_of (take (length ds - 2) (drop 2 ds)))) × (length (take (length ds - 2) (drop 2 ds)) < length ds)
-two_digits [] h l two a b = absurd (omega arith)
-two_digits (x ∷ []) h l two a b = absurd (omega arith)
-two_digits (x ∷ y ∷ ds) h l two a b =
-    let all : take (length (x ∷ y ∷ ds) - 2) ds ≡ ds = take_all (length (x ∷ y ∷ ds) - 2) ds (omega arith) in
-    (rw (all, a, b), rw all (omega arith))
+  -- any other pair is a mistake
+  pub no_byte : (e : Mistake) → byte_of pair.now ≡ Err e → bytes_of ds ≡ Err e
+  no_byte e is = next ∙ ap (λ r. follows bs (paired r (bytes_of (chunks_rest t)))) is
 
 -- the digits of the next byte come last
 digits_push : (bs : List ℕ) (i : ℕ) → i < length bs → digits (take (i + 1) bs) ≡ digits (take i bs) ++ (hex_digit (get_or bs i 0 / 16) ∷ hex_digit (get_or bs i 0) ∷ [])

@@ -1,11 +1,11 @@
 -- Bytes as pairs of hex digits. Assumes nothing.
-use Rattle.std.specs.Prelude.{◌≡◌, ℕ, ◌+◌, ◌-◌, ◌*◌, ◌/◌, ◌%◌, ◌<◌, cond, ◌&&◌, List, [], ◌∷◌, length, Some, None, Ok, Err, vec_items, Option, Result, Vec, nat_le}
+use Rattle.std.specs.Prelude.{◌≡◌, ℕ, ◌+◌, ◌-◌, ◌*◌, ◌/◌, ◌%◌, cond, ◌&&◌, List, [], ◌∷◌, Some, None, Ok, Err, vec_items, Option, Result, Vec, nat_le}
 use Rattle.journal_text.specs.declared.hex.Unread.{Unread}
 use Rattle.journal_text.specs.declared.hex.Unread.TheVariants as unread
 use Rattle.journal_text.specs.declared.mistake.Mistake.{Mistake}
 use Rattle.journal_text.specs.declared.mistake.Mistake.TheVariants.{OddHex, BadHex}
+use Rattle.std.specs.Option.{ok_or}
 use Rattle.std.specs.Str.{bytes_eq}
-use Rattle.std.specs.Borrow.{Bor}
 
 -- the digit, in small letters, of the low four bits
 abbrev pub hex_digit : ℕ → ℕ
@@ -23,6 +23,11 @@ abbrev pub pair_of : Option ℕ → Option ℕ → Option ℕ
 pair_of None low = None
 pair_of (Some high) None = None
 pair_of (Some high) (Some low) = Some (high * 16 + low)
+
+-- the byte of a pair of digits, or the mistake in it
+abbrev pub byte_of : List ℕ → Result ℕ Mistake
+byte_of (h ∷ l ∷ []) = ok_or (pair_of (hex_value h) (hex_value l)) BadHex
+byte_of _ = Err OddHex
 
 -- a byte before the bytes that follow
 abbrev pub before : Option ℕ → Result (List ℕ) Mistake → Result (List ℕ) Mistake
@@ -43,12 +48,6 @@ digits_of w = cond (bytes_eq w (45 ∷ [])) [] w
 -- the bytes of a hex text, or the first mistake in it
 abbrev pub hex_of : List ℕ → Result (List ℕ) Mistake
 hex_of w = bytes_of (digits_of w)
-
--- r is the first byte of the digits ds and the digits after it, or the mistake in it
-abbrev pub Begins : List ℕ → Result (Option (ℕ × Bor (List ℕ))) Mistake → Type 0
-Begins ds (Ok None) = ds ≡ []
-Begins ds (Ok (Some (b, rest))) = (bytes_of ds ≡ before (Some b) (bytes_of rest.now)) × (length rest.now < length ds)
-Begins ds (Err e) = bytes_of ds ≡ Err e
 
 -- r is the bytes of the digits ds, or the mistake in them, or there was no memory for the bytes
 abbrev pub Decoded : {Z : Type 0} → List ℕ → Result (Vec ℕ Z) Unread → Type 0

@@ -1,5 +1,5 @@
 -- Classes of bytes. Assumes nothing.
-use Rattle.std.specs.Prelude.{◌≡◌, ℕ, ◌+◌, ◌<◌, Bool, not, ◌&&◌, ◌||◌, List, length, take, drop, ◌==◌, nat_le}
+use Rattle.std.specs.Prelude.{◌≡◌, ℕ, ◌+◌, ◌<◌, Bool, not, ◌&&◌, ◌||◌, ◌⊎◌, List, [], length, take, drop, ◌==◌, nat_le, IsUtf8}
 use Rattle.std.specs.List.{prefix_len}
 use Rattle.journal_text.specs.declared.scan.Class.{Class}
 use Rattle.journal_text.specs.declared.scan.Class.TheVariants.{Blank, Solid, NameByte, Digit, Not}
@@ -23,6 +23,10 @@ within Solid b = not (blank b)
 within NameByte b = letter b || (digit b || b == 95)
 within Digit b = digit b
 within (Not c) b = not (b == c)
+
+-- text is the word, or is empty where the word is no text
+abbrev pub Shows : List ℕ → List ℕ → Type 0
+Shows w text = (text ≡ w) ⊎ ((text ≡ []) × (IsUtf8 w → ⊥))
 
 -- `line` is what stands before the first newline of a text, and `rest` what stands after it
 pub record Lines (text line rest : List ℕ) : Type 0 where

@@ -1,10 +1,9 @@
 // Bytes as pairs of hex digits.
 ghost use Rattle.std.specs.Prelude.{◌≡◌, true, ◌++◌, is_ok, Err, MatchResult, OnOk};
 ghost use Rattle.journal_text.specs.declared.hex.Unread.TheVariants as unread;
-ghost use Rattle.journal_text.specs.Hex.{hex_digit, hex_value, Begins, digits_of, hex_of, Decoded, hex_text};
+ghost use Rattle.journal_text.specs.Hex.{hex_digit, hex_value, byte_of, digits_of, hex_of, Decoded, hex_text};
 
 use crate::mistake::Mistake;
-use crate::scan::is_byte;
 use std::alloc::{AllocError, AllocFailed, Global};
 
 // Why a hex text gives no bytes.
@@ -44,11 +43,19 @@ pub fn hex_digit(n: u8) -> u8
 fn hex_value(digit: u8) -> Option<u8>
     ensures { result ≡ hex_value digit }
 {
-    match digit {
-        b'0'..=b'9' => Some(digit - b'0'),
-        b'a'..=b'f' => Some(digit - b'a' + 10),
-        b'A'..=b'F' => Some(digit - b'A' + 10),
-        _ => None,
+    char::from(digit).to_digit(16).map(|value| value as u8)
+}
+
+// The byte of a pair of digits.
+fn byte_of(pair: &[u8]) -> Result<u8, Mistake>
+    ensures { result ≡ byte_of pair.now }
+{
+    let [high, low] = pair else {
+        return Err(Mistake::OddHex);
+    };
+    match (hex_value(*high), hex_value(*low)) {
+        (Some(high), Some(low)) => Ok(high * 16 + low),
+        _ => Err(Mistake::BadHex),
     }
 }
 
@@ -56,20 +63,9 @@ fn hex_value(digit: u8) -> Option<u8>
 fn digits(text: &[u8]) -> &[u8]
     ensures { result.now ≡ digits_of text.now }
 {
-    if is_byte(text, b'-') { &[] } else { text }
-}
-
-// The first byte that the digits write, and the digits after it, if any are left.
-fn first_byte(digits: &[u8]) -> Result<Option<(u8, &[u8])>, Mistake>
-    ensures { Begins digits.now result }
-{
-    match digits {
-        [] => Ok(None),
-        [_] => Err(Mistake::OddHex),
-        [high, low, rest @ ..] => match (hex_value(*high), hex_value(*low)) {
-            (Some(high), Some(low)) => Ok(Some((high * 16 + low, rest))),
-            _ => Err(Mistake::BadHex),
-        },
+    match text {
+        b"-" => &[],
+        _ => text,
     }
 }
 
@@ -77,9 +73,8 @@ fn first_byte(digits: &[u8]) -> Result<Option<(u8, &[u8])>, Mistake>
 pub fn check_hex(text: &[u8]) -> Result<(), Mistake>
     ensures { MatchResult result (λ _. is_ok (hex_of text.now) ≡ true) (λ e. hex_of text.now ≡ Err e) }
 {
-    let mut rest = digits(text);
-    while let Some((_, after)) = first_byte(rest)? {
-        rest = after;
+    for pair in digits(text).chunks(2) {
+        byte_of(pair)?;
     }
     Ok(())
 }
@@ -96,10 +91,8 @@ fn decode(heap: Global, digits: &[u8]) -> Result<Vec<u8>, Unread>
     ensures { Decoded digits.now result }
 {
     let mut bytes = Vec::new(heap);
-    let mut rest = digits;
-    while let Some((byte, after)) = first_byte(rest)? {
-        bytes.push(byte)?;
-        rest = after;
+    for pair in digits.chunks(2) {
+        bytes.push(byte_of(pair)?)?;
     }
     Ok(bytes)
 }

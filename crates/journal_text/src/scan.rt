@@ -1,8 +1,9 @@
 // Classes of bytes, and runs of them.
-ghost use Rattle.std.specs.Prelude.{◌≡◌, ◌<◌, [], ◌∷◌, length, MatchOption};
+ghost use Rattle.std.specs.Prelude.{◌≡◌, ◌<◌, ◌≤◌, length, take, drop, MatchOption};
 ghost use Rattle.std.specs.List.{prefix_len, list_all};
-ghost use Rattle.std.specs.Str.{bytes_eq};
-ghost use Rattle.journal_text.specs.Scans.{within, Lines};
+ghost use Rattle.journal_text.specs.Scans.{within, Shows, Lines};
+
+use std::str::from_utf8;
 
 // A set of bytes.
 #[derive(Clone, Copy)]
@@ -32,32 +33,37 @@ impl Class {
 fn is_blank(byte: u8) -> bool
     ensures { result ≡ within Class.Blank byte }
 {
-    byte == b' ' || byte == b'\t' || byte == b'\r'
+    matches!(byte, b' ' | b'\t' | b'\r')
 }
 
 // How many bytes at the front are of the class.
-pub fn run(text: &[u8], class: Class) -> usize
-    ensures { result ≡ prefix_len (within class) text.now }
+fn run(text: &[u8], class: Class) -> usize
+    ensures length { result ≡ prefix_len (within class) text.now }
+    ensures fits { result ≤ length text.now }
 {
-    let mut n = 0;
-    while n < text.len() && class.has(text[n]) {
-        n += 1;
-    }
-    n
+    text.iter().take_while(|byte| class.has(**byte)).count()
+}
+
+// The bytes of the class at the front, and what follows them.
+pub fn split_run(text: &[u8], class: Class) -> (&[u8], &[u8])
+    ensures front { result.0.now ≡ take (prefix_len (within class) text.now) text.now }
+    ensures back { result.1.now ≡ drop (prefix_len (within class) text.now) text.now }
+{
+    text.split_at(run(text, class))
 }
 
 // Whether every byte is of the class.
 pub fn is_all(text: &[u8], class: Class) -> bool
     ensures { result ≡ list_all (within class) text.now }
 {
-    run(text, class) == text.len()
+    text.iter().all(|byte| class.has(*byte))
 }
 
-// Whether the text is that one byte.
-pub fn is_byte(text: &[u8], byte: u8) -> bool
-    ensures { result ≡ bytes_eq text.now (byte ∷ []) }
+// A word as text, and empty where it is no text: no word of the journal's language is empty.
+pub fn text(word: &[u8]) -> &str
+    ensures { Shows word.now result.now }
 {
-    text.len() == 1 && text[0] == byte
+    from_utf8(word).unwrap_or("")
 }
 
 // The first line of a text without its newline, and the text after it; nothing where the text is empty.
@@ -76,10 +82,9 @@ fn cut_line(text: &[u8]) -> (&[u8], &[u8])
     requires { 0 < length text.now }
     ensures { Lines text.now result.0.now result.1.now }
 {
-    let (line, newline) = text.split_at(run(text, Class::Not(b'\n')));
-    if newline.is_empty() {
-        return (line, newline);
+    let (line, newline) = split_run(text, Class::Not(b'\n'));
+    match newline {
+        [] => (line, newline),
+        [_, rest @ ..] => (line, rest),
     }
-    let (_, rest) = newline.split_at(1);
-    (line, rest)
 }

@@ -1,11 +1,12 @@
 -- Words that stand in no table. Assumes nothing.
-use Rattle.std.proofs.Common.{◌≡◌, ℕ, zero, suc, ◌<◌, Bool, true, false, cond, ◌&&◌, ltb, List, [], ◌∷◌, length, get_or, Some, None, IsUtf8, sym, refl, ap, ◌∙◌, subst, inl, inr, arith}
+use Rattle.std.proofs.Common.{◌≡◌, ℕ, Bool, true, false, cond, ◌&&◌, ltb, List, [], ◌∷◌, length, Some, None, IsUtf8, sym, refl, ap, ◌∙◌, subst, inl, inr, arith}
 use Rattle.std.specs.List.{list_all}
 use Rattle.std.proofs.lemmas.Bool.{and_parts, ltb-true}
-use Rattle.std.proofs.lemmas.Str.{IsUtf8-from_ascii}
 use Rattle.std.specs.Str.{bytes_eq}
 use Rattle.std.proofs.lemmas.Slice.Eq.{bytes_eq-Decides}
-use Rattle.journal_words.specs.Verbs.{Shows, beside}
+use Rattle.journal_text.proofs.Ascii.{is_text}
+use Rattle.journal_text.specs.Scans.{Shows}
+use Rattle.journal_words.specs.Verbs.{beside}
 
 -- w is none of the words of a table
 abbrev pub Unlike : {A : Type 0} → List (List ℕ × A) → List ℕ → Type 0
@@ -26,15 +27,6 @@ abbrev pub plain : {A : Type 0} → List (List ℕ × A) → Bool
 plain [] = true
 plain (row ∷ rows) = (ltb 0 (length row.0) && list_all (λ b. ltb b 128) row.0) && plain rows
 
--- a word of ASCII is text
-pub is_text : (w : List ℕ) → list_all (λ b. ltb b 128) w ≡ true → IsUtf8 w
-is_text w h = IsUtf8-from_ascii w (low w h)
-  where
-    low : (w : List ℕ) → list_all (λ b. ltb b 128) w ≡ true → (i : ℕ) → get_or w i 0 < 128
-    low [] h i = omega arith
-    low (b ∷ w) h zero = ltb-true b 128 (and_parts (ltb b 128) (list_all (λ b. ltb b 128) w) h).0
-    low (b ∷ w) h (suc i) = low w (and_parts (ltb b 128) (list_all (λ b. ltb b 128) w) h).1 i
-
 -- what is shown of a word finds what the word does
 pub same_row : {A : Type 0} (rows : List (List ℕ × A)) (w text : List ℕ) → plain rows ≡ true → Shows w text → beside rows text ≡ beside rows w
 same_row rows w text p (inl e) = ap (beside rows) e
@@ -50,4 +42,4 @@ same_row rows w text p (inr (e, bad)) = ap (beside rows) e ∙ unlisted rows [] 
     not_row [] p = tt
     not_row (row ∷ rows) p =
         let q = and_parts (ltb 0 (length row.0) && list_all (λ b. ltb b 128) row.0) (plain rows) p in
-        (λ e. bad (subst IsUtf8 (sym e) (is_text row.0 (and_parts (ltb 0 (length row.0)) (list_all (λ b. ltb b 128) row.0) q.0).1)), not_row rows q.1)
+        (λ e. bad (subst IsUtf8 (sym e) (is_text (λ b. ltb b 128) (λ b. ltb-true b 128) row.0 (and_parts (ltb 0 (length row.0)) (list_all (λ b. ltb b 128) row.0) q.0).1)), not_row rows q.1)

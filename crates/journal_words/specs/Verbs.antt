@@ -1,5 +1,5 @@
 -- The words that begin a command. Assumes nothing.
-use Rattle.std.specs.Prelude.{◌≡◌, ℕ, Bool, true, false, cond, ◌⊎◌, List, [], ◌∷◌, Some, None, codes, IsUtf8, Option}
+use Rattle.std.specs.Prelude.{ℕ, Bool, true, false, cond, List, [], ◌∷◌, Some, None, codes, Option}
 use Rattle.std.specs.Str.{bytes_eq}
 use Rattle.journal_words.specs.declared.command.KindName.{KindName}
 use Rattle.journal_words.specs.declared.command.KindName.TheVariants.{YesNo, Points}
@@ -9,10 +9,6 @@ use Rattle.journal_words.specs.declared.verb.StoreWord.{StoreWord}
 use Rattle.journal_words.specs.declared.verb.StoreWord.TheVariants as word
 use Rattle.journal_words.specs.declared.verb.Verb.{Verb}
 use Rattle.journal_words.specs.declared.verb.Verb.TheVariants.{Layout, Exchange, SetType, Table, Walk, Output, Constant, Mark, Sum, Difference, Product, Restrict, Read, Hold, LetGo, Sweep, Size, Write, Grade, Release, Reopen, Show}
-
--- text is the word, or is empty where the word is no text
-abbrev pub Shows : List ℕ → List ℕ → Type 0
-Shows w text = (text ≡ w) ⊎ ((text ≡ []) × (IsUtf8 w → ⊥))
 
 -- what stands beside a word in a table of words
 abbrev pub beside : {A : Type 0} → List (List ℕ × A) → List ℕ → Option A

@@ -4,15 +4,17 @@ ghost use Rattle.journal_words.specs.Words.{left};
 ghost use Rattle.journal_words.specs.Requests.{answered, begun, said, request};
 
 use crate::command::Command;
-use crate::verb::{ListName, Verb, text};
+use crate::operands::Hex;
+use crate::verb::{ListName, Verb};
 use crate::words::Words;
 use journal_text::mistake::Mistake;
+use journal_text::scan::text;
 
 // The command that the word names.
 pub fn begin(word: &[u8]) -> Result<Verb, Mistake>
     ensures { result ≡ begun word.now }
 {
-    Verb::named(text(word)).ok_or(Mistake::UnknownCommand)
+    text(word).parse()
 }
 
 // The command of the word, with its operands.
@@ -21,19 +23,19 @@ pub fn command<'a>(verb: Verb, words: Words<'a>) -> Result<Command<'a>, Mistake>
 {
     match verb {
         Verb::Layout => {
-            let marks = words.one_number()?;
+            let marks = words.one()?;
             Ok(Command::Layout { marks })
         }
         Verb::Exchange => {
-            let (a, b) = words.two_numbers()?;
+            let (a, b) = words.two()?;
             Ok(Command::Exchange { a, b })
         }
         Verb::SetType => {
-            let (mark, to) = words.two_numbers()?;
+            let (mark, to) = words.two()?;
             Ok(Command::SetType { mark, to })
         }
         Verb::Table => {
-            let (kind, capacity, store) = words.kind_number_store()?;
+            let (kind, capacity, store) = words.three()?;
             Ok(Command::Table {
                 kind,
                 capacity,
@@ -41,35 +43,35 @@ pub fn command<'a>(verb: Verb, words: Words<'a>) -> Result<Command<'a>, Mistake>
             })
         }
         Verb::Walk => {
-            let (length, fill) = words.two_numbers()?;
+            let (length, fill) = words.two()?;
             Ok(Command::Walk { length, fill })
         }
         Verb::Output => {
-            let (length, fill) = words.two_numbers()?;
+            let (length, fill) = words.two()?;
             Ok(Command::Output { length, fill })
         }
         Verb::Constant => {
-            let value = words.one_number()?;
+            let value = words.one()?;
             Ok(Command::Constant { value })
         }
         Verb::Mark => {
-            let mark = words.one_number()?;
+            let mark = words.one()?;
             Ok(Command::Mark { mark })
         }
         Verb::Sum => {
-            let (a, b) = words.two_handles()?;
+            let (a, b) = words.two()?;
             Ok(Command::Sum { a, b })
         }
         Verb::Difference => {
-            let (a, b) = words.two_handles()?;
+            let (a, b) = words.two()?;
             Ok(Command::Difference { a, b })
         }
         Verb::Product => {
-            let (a, b) = words.two_handles()?;
+            let (a, b) = words.two()?;
             Ok(Command::Product { a, b })
         }
         Verb::Restrict => {
-            let (handle, mark, constant) = words.handle_two_numbers()?;
+            let (handle, mark, constant) = words.three()?;
             Ok(Command::Restrict {
                 handle,
                 mark,
@@ -77,15 +79,15 @@ pub fn command<'a>(verb: Verb, words: Words<'a>) -> Result<Command<'a>, Mistake>
             })
         }
         Verb::Read => {
-            let hex = words.one_hex()?;
+            let Hex(hex) = words.one()?;
             Ok(Command::Read { hex })
         }
         Verb::Hold => {
-            let handle = words.one_handle()?;
+            let handle = words.one()?;
             Ok(Command::Hold { handle })
         }
         Verb::LetGo => {
-            let handle = words.one_handle()?;
+            let handle = words.one()?;
             Ok(Command::LetGo { handle })
         }
         Verb::Sweep => {
@@ -93,15 +95,15 @@ pub fn command<'a>(verb: Verb, words: Words<'a>) -> Result<Command<'a>, Mistake>
             Ok(Command::Sweep)
         }
         Verb::Size => {
-            let handle = words.one_handle()?;
+            let handle = words.one()?;
             Ok(Command::Size { handle })
         }
         Verb::Write => {
-            let handle = words.one_handle()?;
+            let handle = words.one()?;
             Ok(Command::Write { handle })
         }
         Verb::Grade => {
-            let (handle, fruit) = words.handle_number()?;
+            let (handle, fruit) = words.two()?;
             Ok(Command::Grade { handle, fruit })
         }
         Verb::Release => {
@@ -112,7 +114,7 @@ pub fn command<'a>(verb: Verb, words: Words<'a>) -> Result<Command<'a>, Mistake>
             words.end()?;
             Ok(Command::Reopen)
         }
-        Verb::Show => match words.one_list()? {
+        Verb::Show => match words.one()? {
             ListName::Walk => Ok(Command::ShowWalk),
             ListName::Output => Ok(Command::ShowOutput),
         },

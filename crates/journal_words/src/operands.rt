@@ -8,13 +8,142 @@ ghost use Rattle.journal_words.specs.Requests as requests;
 ghost use Rattle.journal_words.specs.Takes.{Takes, Reads};
 
 use crate::command::{KindName, Operand, StoreName};
-use crate::verb::{ListName, StoreWord, text};
+use crate::verb::{ListName, StoreWord};
 use crate::words::Words;
 use journal_text::decimal::number;
 use journal_text::hex::check_hex;
 use journal_text::mistake::Mistake;
-use journal_text::scan::{Class, is_all};
+use journal_text::scan::{Class, is_all, text};
 use std::str::from_utf8;
+
+// What a command takes from the words of its line.
+pub trait FromWords<'a>: Sized + Drop {
+    // What may stand at its place.
+    ghost slot: { Slot };
+
+    // The value, as an operand.
+    ghost part: { Self → Part };
+
+    // The next operand, which has to be there.
+    fn take(words: &mut Words<'a>) -> Result<Self, Mistake>
+        ensures { Takes part slot words.old result words.new };
+}
+
+impl<'a> FromWords<'a> for u32 {
+    ghost slot = { requests.Number };
+
+    ghost part = { requests.number };
+
+    fn take(words: &mut Words<'a>) -> Result<u32, Mistake> {
+        number(words.word()?)
+    }
+}
+
+impl<'a> FromWords<'a> for Operand<'a> {
+    ghost slot = { requests.Handle };
+
+    ghost part = { operand_part };
+
+    fn take(words: &mut Words<'a>) -> Result<Operand<'a>, Mistake> {
+        operand(words.word()?)
+    }
+}
+
+// A word of hex, of whole bytes.
+#[derive(Clone, Copy)]
+pub struct Hex<'a>(pub &'a [u8]);
+
+impl<'a> FromWords<'a> for Hex<'a> {
+    ghost slot = { requests.Hex };
+
+    ghost part = { λ h. requests.hex h.0.now };
+
+    fn take(words: &mut Words<'a>) -> Result<Hex<'a>, Mistake> {
+        let word = words.word()?;
+        check_hex(word)?;
+        Ok(Hex(word))
+    }
+}
+
+impl<'a> FromWords<'a> for KindName {
+    ghost slot = { requests.Kind };
+
+    ghost part = { requests.kind };
+
+    fn take(words: &mut Words<'a>) -> Result<KindName, Mistake> {
+        text(words.word()?).parse()
+    }
+}
+
+impl<'a> FromWords<'a> for ListName {
+    ghost slot = { requests.Shown };
+
+    ghost part = { requests.list };
+
+    fn take(words: &mut Words<'a>) -> Result<ListName, Mistake> {
+        text(words.word()?).parse()
+    }
+}
+
+impl<'a> FromWords<'a> for StoreName {
+    ghost slot = { requests.Store };
+
+    ghost part = { requests.store };
+
+    fn take(words: &mut Words<'a>) -> Result<StoreName, Mistake> {
+        match text(words.word()?).parse()? {
+            StoreWord::Last => Ok(StoreName::Last),
+            StoreWord::Own => Ok(StoreName::Own),
+            StoreWord::Lent => Ok(StoreName::Lent(u32::take(words)?)),
+        }
+    }
+}
+
+impl<'a> Words<'a> {
+    // The next word, which has to be there.
+    fn word(&mut self) -> Result<&'a [u8], Mistake>
+        ensures { MatchResult result (λ w. left self.old ≡ w.now ∷ left self.new) (λ e. (left self.old ≡ []) × (e ≡ MissingOperand)) }
+    {
+        self.next().ok_or(Mistake::MissingOperand)
+    }
+
+    // No operand may be left.
+    pub fn end(mut self) -> Result<(), Mistake>
+        ensures { Reads (λ _. []) [] self.entry result }
+    {
+        match self.next() {
+            None => Ok(()),
+            Some(_) => Err(Mistake::ExtraOperand),
+        }
+    }
+
+    // The only operand.
+    pub fn one<A: FromWords<'a>>(mut self) -> Result<A, Mistake>
+        ensures { Reads (λ a. A.part a ∷ []) (A.slot ∷ []) self.entry result }
+    {
+        let only = A::take(&mut self)?;
+        self.end()?;
+        Ok(only)
+    }
+
+    pub fn two<A: FromWords<'a>, B: FromWords<'a>>(mut self) -> Result<(A, B), Mistake>
+        ensures { Reads (λ p. A.part p.0 ∷ B.part p.1 ∷ []) (A.slot ∷ B.slot ∷ []) self.entry result }
+    {
+        let first = A::take(&mut self)?;
+        let second = self.one()?;
+        Ok((first, second))
+    }
+
+    pub fn three<A: FromWords<'a>, B: FromWords<'a>, C: FromWords<'a>>(
+        mut self,
+    ) -> Result<(A, B, C), Mistake>
+        ensures { Reads (λ p. A.part p.0 ∷ B.part p.1 ∷ C.part p.2 ∷ []) (A.slot ∷ B.slot ∷ C.slot ∷ []) self.entry result }
+    {
+        let first = A::take(&mut self)?;
+        let (second, third) = self.two()?;
+        Ok((first, second, third))
+    }
+}
 
 // The word as a name: a letter a-z, and then letters a-z, digits and `_`.
 pub fn name(word: &[u8]) -> Option<&str>
@@ -55,147 +184,5 @@ fn begins_with_digit(word: &[u8]) -> bool
     match word {
         [first, ..] => first.is_ascii_digit(),
         [] => false,
-    }
-}
-
-impl<'a> Words<'a> {
-    // The next word, which has to be there.
-    fn word(&mut self) -> Result<&'a [u8], Mistake>
-        ensures { MatchResult result (λ w. left self.old ≡ w.now ∷ left self.new) (λ e. (left self.old ≡ []) × (e ≡ MissingOperand)) }
-    {
-        self.next().ok_or(Mistake::MissingOperand)
-    }
-
-    fn number(&mut self) -> Result<u32, Mistake>
-        ensures { Takes requests.number requests.Number self.old result self.new }
-    {
-        number(self.word()?)
-    }
-
-    fn handle(&mut self) -> Result<Operand<'a>, Mistake>
-        ensures { Takes operand_part requests.Handle self.old result self.new }
-    {
-        operand(self.word()?)
-    }
-
-    fn hex(&mut self) -> Result<&'a [u8], Mistake>
-        ensures { Takes (λ w. requests.hex w.now) requests.Hex self.old result self.new }
-    {
-        let word = self.word()?;
-        check_hex(word)?;
-        Ok(word)
-    }
-
-    fn kind(&mut self) -> Result<KindName, Mistake>
-        ensures { Takes requests.kind requests.Kind self.old result self.new }
-    {
-        let word = self.word()?;
-        KindName::named(text(word)).ok_or(Mistake::UnknownKind)
-    }
-
-    fn list(&mut self) -> Result<ListName, Mistake>
-        ensures { Takes requests.list requests.Shown self.old result self.new }
-    {
-        let word = self.word()?;
-        ListName::named(text(word)).ok_or(Mistake::UnknownList)
-    }
-
-    fn store(&mut self) -> Result<StoreName, Mistake>
-        ensures { Takes requests.store requests.Store self.old result self.new }
-    {
-        let word = self.word()?;
-        match StoreWord::named(text(word)) {
-            Some(StoreWord::Last) => Ok(StoreName::Last),
-            Some(StoreWord::Own) => Ok(StoreName::Own),
-            Some(StoreWord::Lent) => Ok(StoreName::Lent(self.number()?)),
-            None => Err(Mistake::UnknownStore),
-        }
-    }
-
-    // No operand may be left.
-    pub fn end(mut self) -> Result<(), Mistake>
-        ensures { Reads (λ _. []) [] self.entry result }
-    {
-        match self.next() {
-            None => Ok(()),
-            Some(_) => Err(Mistake::ExtraOperand),
-        }
-    }
-
-    pub fn one_number(mut self) -> Result<u32, Mistake>
-        ensures { Reads (λ n. requests.number n ∷ []) (requests.Number ∷ []) self.entry result }
-    {
-        let only = self.number()?;
-        self.end()?;
-        Ok(only)
-    }
-
-    pub fn two_numbers(mut self) -> Result<(u32, u32), Mistake>
-        ensures { Reads (λ p. requests.number p.0 ∷ requests.number p.1 ∷ []) (requests.Number ∷ requests.Number ∷ []) self.entry result }
-    {
-        let first = self.number()?;
-        let second = self.one_number()?;
-        Ok((first, second))
-    }
-
-    pub fn one_handle(mut self) -> Result<Operand<'a>, Mistake>
-        ensures { Reads (λ h. operand_part h ∷ []) (requests.Handle ∷ []) self.entry result }
-    {
-        let only = self.handle()?;
-        self.end()?;
-        Ok(only)
-    }
-
-    pub fn two_handles(mut self) -> Result<(Operand<'a>, Operand<'a>), Mistake>
-        ensures { Reads (λ p. operand_part p.0 ∷ operand_part p.1 ∷ []) (requests.Handle ∷ requests.Handle ∷ []) self.entry result }
-    {
-        let first = self.handle()?;
-        let second = self.one_handle()?;
-        Ok((first, second))
-    }
-
-    // A handle and a fruit.
-    pub fn handle_number(mut self) -> Result<(Operand<'a>, u32), Mistake>
-        ensures { Reads (λ p. operand_part p.0 ∷ requests.number p.1 ∷ []) (requests.Handle ∷ requests.Number ∷ []) self.entry result }
-    {
-        let handle = self.handle()?;
-        let number = self.one_number()?;
-        Ok((handle, number))
-    }
-
-    // A handle, a mark and a constant.
-    pub fn handle_two_numbers(mut self) -> Result<(Operand<'a>, u32, u32), Mistake>
-        ensures { Reads (λ p. operand_part p.0 ∷ requests.number p.1 ∷ requests.number p.2 ∷ []) (requests.Handle ∷ requests.Number ∷ requests.Number ∷ []) self.entry result }
-    {
-        let handle = self.handle()?;
-        let (first, second) = self.two_numbers()?;
-        Ok((handle, first, second))
-    }
-
-    pub fn one_hex(mut self) -> Result<&'a [u8], Mistake>
-        ensures { Reads (λ w. requests.hex w.now ∷ []) (requests.Hex ∷ []) self.entry result }
-    {
-        let only = self.hex()?;
-        self.end()?;
-        Ok(only)
-    }
-
-    pub fn one_list(mut self) -> Result<ListName, Mistake>
-        ensures { Reads (λ l. requests.list l ∷ []) (requests.Shown ∷ []) self.entry result }
-    {
-        let only = self.list()?;
-        self.end()?;
-        Ok(only)
-    }
-
-    // A kind, a capacity and a store.
-    pub fn kind_number_store(mut self) -> Result<(KindName, u32, StoreName), Mistake>
-        ensures { Reads (λ p. requests.kind p.0 ∷ requests.number p.1 ∷ requests.store p.2 ∷ []) (requests.Kind ∷ requests.Number ∷ requests.Store ∷ []) self.entry result }
-    {
-        let kind = self.kind()?;
-        let number = self.number()?;
-        let store = self.store()?;
-        self.end()?;
-        Ok((kind, number, store))
     }
 }

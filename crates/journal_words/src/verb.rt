@@ -1,19 +1,12 @@
 // The words of a journal's language.
 ghost use Rattle.std.specs.Prelude.{◌≡◌};
-ghost use Rattle.journal_words.specs.Verbs.{Shows, beside, kinds, stores, lists, verb_of, bindable};
+ghost use Rattle.std.specs.Option.{ok_or};
+ghost use Rattle.journal_text.specs.declared.mistake.Mistake.TheVariants.{UnknownCommand, UnknownKind, UnknownStore, UnknownList};
+ghost use Rattle.journal_words.specs.Verbs.{beside, kinds, stores, lists, verb_of, bindable};
 
 use crate::command::KindName;
-use std::str::from_utf8;
-
-// A word as text. What is no text is none of the words below, and neither is the empty text.
-pub fn text(word: &[u8]) -> &str
-    ensures { Shows word.now result.now }
-{
-    match from_utf8(word) {
-        Ok(text) => text,
-        Err(_) => "",
-    }
-}
+use journal_text::mistake::Mistake;
+use std::str::FromStr;
 
 // The word that begins a command.
 #[derive(Clone, Copy)]
@@ -42,38 +35,41 @@ pub enum Verb {
     Show,
 }
 
-impl Verb {
-    // The command of that name, if there is one.
-    pub fn named(word: &str) -> Option<Verb>
-        ensures { result ≡ verb_of word.now }
-    {
+impl FromStr for Verb {
+    type Err = Mistake;
+
+    ghost from_str_gives = { λ word r. r ≡ ok_or (verb_of word) UnknownCommand };
+
+    fn from_str(word: &str) -> Result<Verb, Mistake> {
         match word {
-            "layout" => Some(Verb::Layout),
-            "exchange" => Some(Verb::Exchange),
-            "type" => Some(Verb::SetType),
-            "table" => Some(Verb::Table),
-            "walk" => Some(Verb::Walk),
-            "output" => Some(Verb::Output),
-            "constant" => Some(Verb::Constant),
-            "mark" => Some(Verb::Mark),
-            "sum" => Some(Verb::Sum),
-            "difference" => Some(Verb::Difference),
-            "product" => Some(Verb::Product),
-            "restrict" => Some(Verb::Restrict),
-            "read" => Some(Verb::Read),
-            "hold" => Some(Verb::Hold),
-            "let-go" => Some(Verb::LetGo),
-            "sweep" => Some(Verb::Sweep),
-            "size" => Some(Verb::Size),
-            "write" => Some(Verb::Write),
-            "grade" => Some(Verb::Grade),
-            "release" => Some(Verb::Release),
-            "reopen" => Some(Verb::Reopen),
-            "show" => Some(Verb::Show),
-            _ => None,
+            "layout" => Ok(Verb::Layout),
+            "exchange" => Ok(Verb::Exchange),
+            "type" => Ok(Verb::SetType),
+            "table" => Ok(Verb::Table),
+            "walk" => Ok(Verb::Walk),
+            "output" => Ok(Verb::Output),
+            "constant" => Ok(Verb::Constant),
+            "mark" => Ok(Verb::Mark),
+            "sum" => Ok(Verb::Sum),
+            "difference" => Ok(Verb::Difference),
+            "product" => Ok(Verb::Product),
+            "restrict" => Ok(Verb::Restrict),
+            "read" => Ok(Verb::Read),
+            "hold" => Ok(Verb::Hold),
+            "let-go" => Ok(Verb::LetGo),
+            "sweep" => Ok(Verb::Sweep),
+            "size" => Ok(Verb::Size),
+            "write" => Ok(Verb::Write),
+            "grade" => Ok(Verb::Grade),
+            "release" => Ok(Verb::Release),
+            "reopen" => Ok(Verb::Reopen),
+            "show" => Ok(Verb::Show),
+            _ => Err(Mistake::UnknownCommand),
         }
     }
+}
 
+impl Verb {
     // Whether the command answers a handle, which a name can be bound to.
     pub fn answers_handle(self) -> bool
         ensures { result ≡ bindable self }
@@ -91,14 +87,16 @@ impl Verb {
     }
 }
 
-impl KindName {
-    pub fn named(word: &str) -> Option<KindName>
-        ensures { result ≡ beside kinds word.now }
-    {
+impl FromStr for KindName {
+    type Err = Mistake;
+
+    ghost from_str_gives = { λ word r. r ≡ ok_or (beside kinds word) UnknownKind };
+
+    fn from_str(word: &str) -> Result<KindName, Mistake> {
         match word {
-            "yesno" => Some(KindName::YesNo),
-            "points" => Some(KindName::Points),
-            _ => None,
+            "yesno" => Ok(KindName::YesNo),
+            "points" => Ok(KindName::Points),
+            _ => Err(Mistake::UnknownKind),
         }
     }
 }
@@ -111,15 +109,17 @@ pub enum StoreWord {
     Lent,
 }
 
-impl StoreWord {
-    pub fn named(word: &str) -> Option<StoreWord>
-        ensures { result ≡ beside stores word.now }
-    {
+impl FromStr for StoreWord {
+    type Err = Mistake;
+
+    ghost from_str_gives = { λ word r. r ≡ ok_or (beside stores word) UnknownStore };
+
+    fn from_str(word: &str) -> Result<StoreWord, Mistake> {
         match word {
-            "last" => Some(StoreWord::Last),
-            "own" => Some(StoreWord::Own),
-            "lent" => Some(StoreWord::Lent),
-            _ => None,
+            "last" => Ok(StoreWord::Last),
+            "own" => Ok(StoreWord::Own),
+            "lent" => Ok(StoreWord::Lent),
+            _ => Err(Mistake::UnknownStore),
         }
     }
 }
@@ -131,14 +131,16 @@ pub enum ListName {
     Output,
 }
 
-impl ListName {
-    pub fn named(word: &str) -> Option<ListName>
-        ensures { result ≡ beside lists word.now }
-    {
+impl FromStr for ListName {
+    type Err = Mistake;
+
+    ghost from_str_gives = { λ word r. r ≡ ok_or (beside lists word) UnknownList };
+
+    fn from_str(word: &str) -> Result<ListName, Mistake> {
         match word {
-            "walk" => Some(ListName::Walk),
-            "output" => Some(ListName::Output),
-            _ => None,
+            "walk" => Ok(ListName::Walk),
+            "output" => Ok(ListName::Output),
+            _ => Err(Mistake::UnknownList),
         }
     }
 }

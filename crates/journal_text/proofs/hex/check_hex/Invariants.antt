@@ -1,10 +1,8 @@
-use Rattle.std.proofs.Common.{length}
-use Rattle.journal_text.specs.Hex.{bytes_of, hex_of}
-use Rattle.journal_text.proofs.Pairs.{SameEnd}
+use Rattle.std.proofs.Common.{◌≡◌, List, ℕ}
+use Rattle.std.specs.Slice.Iter.{chunks_rest, chunks_size}
+use Rattle.journal_text.specs.Hex.{bytes_of, digits_of}
+use Rattle.journal_text.proofs.Pairs.{follows}
 use Rattle.journal_text.proofs.hex.check_hex.Given as goal
 
-abbrev pub invariant-loop-after : goal.invariant-loop-after
-invariant-loop-after l = SameEnd (hex_of l.text) (bytes_of l.rest)
-
-abbrev pub decreases-loop-after : goal.decreases-loop-after
-decreases-loop-after l = length l.rest
+abbrev pub invariant-loop-pair : goal.invariant-loop-pair
+invariant-loop-pair l = (chunks_size l.pair-iterator ≡ 2) × ((bs : List ℕ) × (bytes_of (digits_of l.text) ≡ follows bs (bytes_of (chunks_rest l.pair-iterator))))

@@ -1,17 +1,16 @@
-use Rattle.std.proofs.Common.{Ok, vec_items, sym, ap, ◌∙◌, append-nil}
-use Rattle.journal_text.specs.Hex.{bytes_of}
-use Rattle.journal_text.proofs.Pairs.{follows, follows_none, begins_none, byte_turn}
+use Rattle.std.proofs.Common.{sym, ◌∙◌}
+use Rattle.std.proofs.lemmas.Result.{err_from_is_err_and}
+use Rattle.journal_text.proofs.Pairs.{byte_more, no_byte}
 use Rattle.journal_text.proofs.hex.decode.Goals as goal
 
-pub loop-bytes-init : goal.loop-bytes-init
-loop-bytes-init c =
-    sym (ap (λ l. follows l (bytes_of c.args.digits.now)) c.new-bytes.ensures.items ∙ follows_none _)
+pub loop-pair-preserved : goal.loop-pair-preserved
+loop-pair-preserved c =
+    let step = c.in-Some.ensures.steps in
+    let more = byte_more c.args.digits.now c.loop-pair.pair-iterator c.next.new.self c.in-Some.pair step c.loop-pair.invariant.0 _ c.loop-pair.invariant.1 c.in_ok-byte_of.field-0 (sym c.in_ok-byte_of.ensures) in
+    (step.0 ∙ c.loop-pair.invariant.0, rw c.in_ok-push.ensures.items more)
 
-pub loop-bytes-preserved : goal.loop-bytes-preserved
-loop-bytes-preserved c = byte_turn c.loop-bytes.rest.now c.in_ok-byte.field-0 c.in-Some.byte c.in-Some.after c.in_ok-byte.ensures c.in-Some.is _ (vec_items c.loop-bytes.bytes) _ c.loop-bytes.invariant c.in_ok-push.ensures.items
-
-pub returns : goal.returns
-returns c =
-    c.loop-bytes.invariant
-    ∙ ap (follows (vec_items c.loop-bytes.bytes)) (begins_none c.loop-bytes.rest.now c.in_ok-byte.field-0 c.in_ok-byte.ensures c.in_default.is)
-    ∙ ap Ok (append-nil (vec_items c.loop-bytes.bytes))
+pub returns-in_err-byte_of : goal.returns-in_err-byte_of
+returns-in_err-byte_of c =
+    let bad = no_byte c.args.digits.now c.loop-pair.pair-iterator c.next.new.self c.in-Some.pair c.in-Some.ensures.steps c.loop-pair.invariant.0 _ c.loop-pair.invariant.1 c.in_err-byte_of.field-0.0 (sym c.in_err-byte_of.ensures) in
+    let p = err_from_is_err_and c.from_residual.result c.from_residual.ensures.1 in
+    rw (p.1, p.2) bad

@@ -8,6 +8,4 @@ use Rattle.journal_words.proofs.asking.begin.Goals as goal
 
 pub returns : goal.returns
 unfolding begun
-returns c =
-    c.ok_or.ensures.value
-    ∙ ap (λ o. ok_or o UnknownCommand) (c.named.ensures ∙ same_row verbs c.args.word.now c.text.result.now refl c.text.ensures)
+returns c = c.parse.ensures.value ∙ ap (λ o. ok_or o UnknownCommand) (same_row verbs c.args.word.now c.text.result.now refl c.text.ensures)
