@@ -30,7 +30,7 @@ impl Places {
         requires spare { Sought self.old free (Some h) }
         ensures { Given self.old self.new (seen_content content) h }
     {
-        self.places[h as usize].fill(content);
+        self.places[usize::from(h)].fill(content);
     }
 
     // The place that holds a content; a free place takes it where none does.
