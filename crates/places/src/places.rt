@@ -8,6 +8,7 @@ use crate::place::Place;
 pub(crate) const SLOTS: usize = 4096;
 
 // A unique table: as many places as its capacity says may be in use, of which the first two hold leaves.
+// A whole array beside the capacity, free places too: a place keeps its number, and its record is lent to be filled, freed or counted.
 #[derive(Clone, Copy)]
 pub struct Places {
     pub(crate) capacity: u16,
