@@ -1,20 +1,20 @@
 -- What a table keeps to, and what filling leaves as it was. Assumes nothing.
-use Rattle.std.proofs.Common.{◌≡◌, ℕ, ◌+◌, ◌<◌, ◌≤◌, true, false, ◌⊎◌, Some, None, Option, sym, refl, ap, ◌∙◌, subst, inl, inr, ⊎_elim, arith}
-use Rattle.std.proofs.lemmas.Bool.{cases_eq, cases_lt, cases_Bool, false≢true}
+use Rattle.std.proofs.Common.{◌≡◌, ℕ, ◌+◌, ◌<◌, ◌≤◌, false, ◌⊎◌, Some, None, Option, sym, refl, ap, ◌∙◌, subst, arith}
+use Rattle.std.proofs.lemmas.Grind.{common_steps}
 use Rattle.diagrams.specs.Diagrams.{Diagram}
 use Rattle.diagrams.specs.Places.{Content, node_at, Place, vacant, Stands, Unshared}
 use Rattle.places.specs.declared.places.Places.{Places}
-use Rattle.places.specs.Contents.{in_use, depth, below, deep}
+use Rattle.places.specs.Contents.{in_use, depth, deep}
 use Rattle.places.specs.Tables.{place, holds, Used, Under, Held, Extends, Given, Filling}
 use Rattle.places.proofs.Standing.{stands_kept}
 use Rattle.places.proofs.Holding.{unused_free, quiet_vacant, leafy_used, leafy_deep, below_parts, deep_parts}
 
 module _ (t : Places) where
   pub unshared : Unshared (holds t)
-  unshared g h e = ⊎_elim (λ used. inr (t.apart g h (used, e))) (λ not. inl (unused_free (holds t g) not)) (cases_Bool (in_use (holds t g)))
+  unshared g h e = grind (arith, common_steps, t.apart g h, unused_free (holds t g))
 
   pub used_below : (h : ℕ) → Used t h → h < t.capacity
-  used_below h u = ⊎_elim (λ lt. lt) (λ le. absurd (false≢true (sym (t.past h le) ∙ u))) (cases_lt h t.capacity)
+  used_below h u = grind (arith, common_steps, t.past h)
 
   -- A place that is not in use is the free one.
   pub unused_vacant : (h : ℕ) → in_use (holds t h) ≡ false → place t h ≡ vacant
@@ -25,10 +25,11 @@ module _ (t : Places) where
 
   -- The children of a node in use are in use and stand deeper.
   pub node_under : (h l x y : ℕ) → holds t h ≡ node_at l x y → (l < 32) × Under t (l + 1) x × Under t (l + 1) y
-  node_under h l x y e = let n = deep_parts (holds t) l x y (sym (ap (deep (holds t)) e) ∙ t.deeper h) in (n.0, child x n.1, child y n.2)
-    where
-      child : (g : ℕ) → below (holds t) l g ≡ true → Under t (l + 1) g
-      child g b = let p = below_parts (holds t) l g b in record { used = p.0; level = omega arith }
+  node_under h l x y e =
+      let n = deep_parts (holds t) l x y (sym (ap (deep (holds t)) e) ∙ t.deeper h) in
+      let low = below_parts (holds t) l x n.1 in
+      let high = below_parts (holds t) l y n.2 in
+      (n.0, record { used = low.0; level = omega arith }, record { used = high.0; level = omega arith })
 
   -- Places 0 and 1 are in use and stand deepest.
   pub zero_under : Under t 32 0
@@ -45,7 +46,7 @@ module _ {t u : Places} (x : Extends t u) where
   holds_same h p = ap (λ (q : Place). q.content) (x.same h p)
 
   pub used_still : (h : ℕ) → Used t h → Used u h
-  used_still h p = ap in_use (holds_same h p) ∙ p
+  used_still h p = cc (holds_same h p)
 
   pub under_still : (l h : ℕ) → Under t l h → Under u l h
   under_still l h p = record { used = used_still h p.used; level = omega (arith, ap depth (holds_same h p.used), p.level) }
@@ -57,26 +58,23 @@ module _ {t u : Places} (x : Extends t u) where
   held_still d p = (p.0, stands_still d p.0 p.1)
 
 pub stays : (t : Places) → Extends t t
-stays t = record { room = refl; same = λ h p. refl; fresh = λ h p q. absurd (false≢true (sym p ∙ q)) }
+stays t = record { room = refl; same = λ h p. refl; fresh = λ h p q. grind arith }
 
 pub then : {t u v : Places} → Extends t u → Extends u v → Extends t v
 then {u = u} x y = record {
-  room = y.room ∙ x.room;
-  same = λ h p. y.same h (used_still x h p) ∙ x.same h p;
-  fresh = λ h p q.
-      ⊎_elim (λ used. ap (λ (w : Place). w.count) (y.same h used) ∙ x.fresh h p used) (λ none. y.fresh h none q) (cases_Bool (in_use (holds u h)));
+  room = cc;
+  same = λ h p. cc (x.same h p, y.same h (used_still x h p));
+  fresh = λ h p q. grind (arith, common_steps, x.fresh h p, y.same h, y.fresh h);
 }
 
 module _ {before after : Places} {c : Content} {h : ℕ} (n : Given before after c h) where
   -- A place in use was in use before, or is the one that is given.
   pub given_only : (g : ℕ) → Used after g → Used before g ⊎ (g ≡ h)
-  given_only g u =
-      ⊎_elim (λ e. inr e) (λ m. inl (sym (ap (λ (p : Place). in_use p.content) (n.others g m)) ∙ u)) (cases_eq g h)
+  given_only g u = grind (arith, common_steps, n.others g)
 
   -- The place that is given held the content already, or was free.
   pub given_was : (holds before h ≡ c) ⊎ (place before h ≡ vacant)
-  given_was =
-      ⊎_elim (λ used. inl (sym (holds_same n.extends h used) ∙ n.here)) (λ none. inr (unused_vacant before h none)) (cases_Bool (in_use (holds before h)))
+  given_was = grind (arith, common_steps, n.extends.same h, n.here, unused_vacant before h)
 
 -- Filling extends a table, whatever it answers.
 pub filling_extends : (before after : Places) (c : Content) (r : Option ℕ) → Filling before after c r → Extends before after

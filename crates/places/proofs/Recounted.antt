@@ -1,11 +1,11 @@
 -- Tables of which one place in use has another count. Assumes nothing.
-use Rattle.std.proofs.Common.{◌≡◌, ℕ, ◌≤◌, true, false, List, get_or, set, Some, None, Option, subst, ap, arith, length-set}
+use Rattle.std.proofs.Common.{◌≡◌, ℕ, ◌≤◌, true, false, List, get_or, set, subst, arith, length-set}
 use mathlib.Core.Path.{fun_ext}
 use Rattle.std.proofs.lemmas.Grind.{common_steps}
 use Rattle.diagrams.specs.Places.{Content}
 use Rattle.places.specs.declared.place.Place.{Place as Slot}
 use Rattle.places.specs.declared.places.Places.{Places}
-use Rattle.places.specs.Contents.{blank, place_at, at, in_use, leafy, deep, quiet, HeldMore, HeldLess}
+use Rattle.places.specs.Contents.{blank, place_at, at, in_use, leafy, deep, quiet}
 use Rattle.places.specs.Tables.{Used}
 use Rattle.places.proofs.Rules.{Rules}
 
@@ -30,12 +30,3 @@ recounted t h p used e =
       zero = subst (λ (held : ℕ → Content). leafy (held 0) ≡ true) q t.zero;
       one = subst (λ (held : ℕ → Content). leafy (held 1) ≡ true) q t.one;
     }
-
--- Counting keeps what a slot holds, whatever it answers.
-pub more_keeps : (s p : Slot) (r : Option ℕ) → HeldMore s r p → p.content ≡ s.content
-more_keeps s p None m = ap (λ (q : Slot). q.content) m.1
-more_keeps s p (Some x) m = ap (λ (q : Slot). q.content) m.2
-
-pub less_keeps : (s p : Slot) (r : Option ℕ) → HeldLess s r p → p.content ≡ s.content
-less_keeps s p None m = ap (λ (q : Slot). q.content) m.1
-less_keeps s p (Some x) m = ap (λ (q : Slot). q.content) m.1

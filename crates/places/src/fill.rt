@@ -6,7 +6,7 @@ ghost use Rattle.places.specs.Tables.{Found, Sought, Given, Filling, Under};
 use crate::place::{Content, Place};
 use crate::places::Places;
 
-// The slot that holds a content.
+// Which of some slots holds a content.
 fn position(slots: &[Place], content: Content) -> Option<usize>
     ensures { Found (at slots.now) (length slots.now) (seen_content content) result }
 {
@@ -30,7 +30,7 @@ impl Places {
         requires spare { Sought self.old free (Some h) }
         ensures { Given self.old self.new (seen_content content) h }
     {
-        self.places[h as usize].fill(content);
+        self.places[usize::from(h)].fill(content);
     }
 
     // The place that holds a content; a free place takes it where none does.
@@ -55,6 +55,7 @@ impl Places {
     }
 
     // The place of a node, whose children stand deeper.
+    // Three arguments and no struct: callers have the parts, and would build one only for `Content::Node` to take apart.
     pub fn node(&mut self, level: u8, low: u16, high: u16) -> Option<u16>
         requires within { level < 32 }
         requires left { Under self.old (level + 1) low }

@@ -3,7 +3,7 @@ ghost use Rattle.places.specs.Contents.{Starting};
 ghost use Rattle.places.specs.Tables.{Fresh};
 
 use crate::place::{Content, Place};
-use crate::places::Places;
+use crate::places::{Places, SLOTS};
 
 // Places of which the first two hold leaves.
 fn starting<const N: usize>(zero: u32, one: u32) -> [Place; N]
@@ -23,7 +23,7 @@ impl Places {
     // A table that holds two leaves and nothing else.
     pub fn fresh(capacity: u16, zero: u32, one: u32) -> Places
         requires least { 2 ≤ capacity }
-        requires most { capacity ≤ 4096 }
+        requires most { capacity ≤ SLOTS }
         requires apart { zero ≢ one }
         ensures { Fresh result capacity zero one }
     {

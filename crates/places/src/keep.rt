@@ -3,7 +3,7 @@ ghost use Rattle.places.specs.Tables.{Used};
 ghost use Rattle.places.specs.Keeping.{Holding, LettingGo, Keeps, Freed, loose, swept, Swept};
 
 use crate::place::Place;
-use crate::places::Places;
+use crate::places::{Places, SLOTS};
 
 impl Place {
     // Frees it if it is in use and has no mark, and answers whether it did.
@@ -23,8 +23,8 @@ impl Place {
 // A node may lose a child before it is freed itself, so this works on the slots and not on a table.
 // By number: of what is written through `iter_mut().zip(marks)` a proof knows nothing afterwards.
 #[tactic(auto, using(diagrams::proofs::Tallies::tally_none))]
-fn sweep(slots: &mut [Place; 4096], marks: &[u32]) -> u16
-    requires { length marks.now ≤ 4096 }
+fn sweep(slots: &mut [Place; SLOTS], marks: &[u32]) -> u16
+    requires { length marks.now ≤ SLOTS }
     ensures { Swept slots.old slots.new marks.now result }
 {
     let mut freed = 0;
@@ -40,7 +40,7 @@ impl Places {
         requires { Used self.old h }
         ensures { Holding self.old self.new h result }
     {
-        self.places[h as usize].hold()
+        self.places[usize::from(h)].hold()
     }
 
     // One hold less of a place in use, unless it is not held.
@@ -48,7 +48,7 @@ impl Places {
         requires { Used self.old h }
         ensures { LettingGo self.old self.new h result }
     {
-        self.places[h as usize].let_go()
+        self.places[usize::from(h)].let_go()
     }
 
     // Frees every place that has no mark, and answers how many were in use.

@@ -2,6 +2,7 @@ ghost use Rattle.std.specs.Prelude.{◌≡◌};
 ghost use Rattle.places.specs.Contents.{seen_content, in_use, blank, HeldMore, HeldLess};
 
 // What a place holds: nothing, a leaf's word, or a node.
+// No Option round leaves and nodes: each of the three is looked for and matched by itself, and `Some(..)` would stand in each pattern.
 #[derive(Clone, Copy, PartialEq, Eq)]
 pub enum Content {
     Free,

@@ -52,13 +52,13 @@ impl Places {
     pub fn live(&self, h: u32) -> Option<u16>
         ensures { Live self.now h result }
     {
-        u16::try_from(h).ok().filter(|place| self.is_used(*place))
+        u16::try_from(h).ok().filter(|&place| self.is_used(place))
     }
 
     // An answer, unless its place is not in use or stands above the level.
     pub fn trusted(&self, answer: Option<u16>, level: u8) -> Option<u16>
         ensures { Trusted self.now level answer result }
     {
-        answer.filter(|h| self.is_used(*h) && level <= self.level_of(*h))
+        answer.filter(|&h| self.is_used(h) && level <= self.level_of(h))
     }
 }

@@ -4,4 +4,4 @@ use Rattle.places.proofs.Recounted.{recounted}
 use Rattle.places.proofs.places.Places.hold.Goals as goal
 
 pub invariant_of-self : goal.invariant_of-self
-invariant_of-self c = recounted c.args.self.now c.args.h c.hold.new.self c.requires (grind (arith, common_steps, c.hold.ensures))
+invariant_of-self c = recounted c.args.self.now c.from.result c.hold.new.self (rw c.from.ensures c.requires) (grind (arith, common_steps, c.hold.ensures))
