@@ -1,8 +1,11 @@
 -- Records that stand in the bytes, read back by number. Assumes nothing.
-use Rattle.std.proofs.Common.{◌≡◌, ℕ, zero, suc, drop-cons, take-suc, ◌+◌, ◌-◌, ◌^◌, ◌<◌, ◌≤◌, true, false, eqb, List, [], ◌∷◌, ◌++◌, length, get_or, take, drop, sym, refl, ap, ◌∙◌, subst, ap₂, inl, inr, Ok, Err, Result, ltb, arith}
+use Rattle.std.proofs.Common.{◌≡◌, Bool, zero-add, ℕ, zero, suc, drop-cons, take-suc, ◌+◌, ◌-◌, ◌^◌, ◌<◌, ◌≤◌, true, false, eqb, List, [], ◌∷◌, ◌++◌, length, get_or, take, drop, sym, refl, ap, ◌∙◌, subst, ap₂, inl, inr, Ok, Err, Result, ltb, arith}
 use mathlib.Core.List.Memᴰ
 use Rattle.std.proofs.lemmas.Bool.{cases_eq, le-ltb, or_from, eq-eqb, ne_eqb}
 use Rattle.std.proofs.lemmas.List.{take_all, drop_all, length-drop, length-take-le, take-append-drop, take_rest}
+use Rattle.std.proofs.lemmas.List.FromFn.{length-range_with_len, get_or-range_with_len}
+use Rattle.std.specs.Bool.{MatchBool}
+use Rattle.std.specs.List.{range_with_len, HoldsAt, AllWithin}
 use Rattle.diagrams.specs.Kinds.{Kind}
 use Rattle.diagrams.specs.Layouts.{Decomposition, shannon, positive, negative, type_code}
 use Rattle.diagrams.specs.Diagrams.{Diagram, leaf, node, same, spare}
@@ -148,19 +151,25 @@ pub holds_no : {P : Type 0} (s : Dec P) → ¬ P → holds s ≡ false
 holds_no (yes p) n = absurd (n p)
 holds_no (no _) n = refl
 
--- Whether a leaf or node stands among the records.
-module _ (seen : List Diagram) (wanted : Item) where
-  pub stands_there : (i : ℕ) → i < length seen → nth seen i ≡ diagram_of seen wanted → holds (among (diagram_of seen wanted) seen) ≡ true
-  stands_there i h e = holds_yes (among (diagram_of seen wanted) seen) (Memᴰ.cast (sym e) (mem_nth seen i h))
+-- A record that holds what is wanted has its diagram, and no other record has.
+pub same_there : (seen : List Diagram) → Distinct seen → (i : ℕ) → i < length seen → (a wanted : Item) → nth seen i ≡ diagram_of seen a → Known i a
+    → Known (length seen) wanted → nth seen i ≡ diagram_of seen wanted → a ≡ wanted
+same_there seen apart i h a wanted e k known q = same_item seen apart a wanted (known_more i (length seen) a (omega arith) k) known (sym e ∙ q)
 
-  pub stands_not : Distinct seen → Known (length seen) wanted → (i : ℕ) → i < length seen → (a : Item) → nth seen i ≡ diagram_of seen a → Known i a → ¬ (a ≡ wanted)
-      → ¬ (nth seen i ≡ diagram_of seen wanted)
-  stands_not apart known i h a e k n q = n (same_item seen apart a wanted (known_more i (length seen) a (omega arith) k) known (sym e ∙ q))
-
-  pub stands_nowhere : ((k : ℕ) → k < length seen → ¬ (nth seen k ≡ diagram_of seen wanted)) → holds (among (diagram_of seen wanted) seen) ≡ false
-  stands_nowhere n =
-      holds_no (among (diagram_of seen wanted) seen)
-      (λ m. n (number (diagram_of seen wanted) seen) (number_within (diagram_of seen wanted) seen m) (nth_number (diagram_of seen wanted) seen m))
+-- A search among all records tells whether a diagram stands there.
+pub among_told : (seen : List Diagram) (d : Diagram) (r : Bool)
+    → MatchBool r ((k : ℕ) × (k < length (range_with_len 0 (length seen))) × HoldsAt (λ i. nth seen i ≡ d) (range_with_len 0 (length seen)) k)
+    (AllWithin (λ i. ¬ (nth seen i ≡ d)) (range_with_len 0 (length seen)) 0 (length (range_with_len 0 (length seen))))
+    → r ≡ holds (among d seen)
+among_told seen d true found =
+    let h : found.0 < length seen = omega (arith, found.1, length-range_with_len 0 (length seen)) in
+    let there : nth seen found.0 ≡ d = rw (get_or-range_with_len 0 (length seen) found.0 0 h, zero-add) at (found.2 0) in
+    sym (holds_yes (among d seen) (Memᴰ.cast (sym there) (mem_nth seen found.0 h)))
+among_told seen d false none =
+    sym (holds_no (among d seen) (λ m.
+    let h : number d seen < length seen = number_within d seen m in
+    let no = none (number d seen) 0 (omega arith) (omega (arith, length-range_with_len 0 (length seen))) in
+    (rw (get_or-range_with_len 0 (length seen) (number d seen) 0 h, zero-add) at no) (nth_number d seen m)))
 
 -- On a Shannon level the drop rule goes by the children's numbers.
 pub shannon_drops : (K : Kind) (t : Decomposition) (seen : List Diagram) → Distinct seen → (x y : ℕ) → x < length seen → y < length seen → type_code t ≡ 0

@@ -1,4 +1,4 @@
-ghost use Rattle.std.specs.Prelude.{◌≡◌, ◌<◌, List, length};
+ghost use Rattle.std.specs.Prelude.{◌≡◌, ◌<◌, List, length, Decides};
 ghost use Rattle.diagrams.specs.Diagrams.{Diagram, top};
 ghost use Rattle.diagrams.specs.Layouts.{Layout};
 ghost use Rattle.diagrams.specs.Reading.{nth, holds};
@@ -82,15 +82,18 @@ impl<'a> Records<'a> {
         }
     }
 
+    // Whether record i holds that leaf or node.
+    fn holds(&self, i: usize, wanted: Item) -> bool
+        requires { i < length self.now }
+        ensures { Known (length self.now) wanted → Decides result (nth self.now i ≡ diagram_of self.now wanted) }
+    {
+        self.item(i) == wanted
+    }
+
     /// Whether a record holds that leaf or node.
     pub fn contains(&self, wanted: Item) -> bool
         ensures { Known (length self.now) wanted → result ≡ holds (among (diagram_of self.now wanted) self.now) }
     {
-        for i in 0..self.len() {
-            if self.item(i) == wanted {
-                return true;
-            }
-        }
-        false
+        (0..self.len()).any(|i| self.holds(i, wanted))
     }
 }
