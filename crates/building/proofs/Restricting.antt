@@ -56,7 +56,7 @@ module _ (K : Kind) (L : Layout) (i c h : ℕ) where
 -- A node's diagram, by its children.
 parts_of : (t : Places) (d : Diagram) (h l x y : ℕ) → Stands (holds t) d h → holds t h ≡ node_at l x y
     → (a : Diagram) × (b : Diagram) × (d ≡ node l a b) × Stands (holds t) a x × Stands (holds t) b y
-parts_of t (leaf v) h l x y p e = let q : leaf_word v ≡ node_at l x y = sym p ∙ e in let z : ◌≡◌ {A = ℕ} 0 1 = cc in absurd (omega arith)
+parts_of t (leaf v) h l x y p e = let q : leaf_word v ≡ node_at l x y = sym p ∙ e in cc
 parts_of t (node m a b) h l x y p e =
     let q : node_at m p.0 p.1 ≡ node_at l x y = sym p.2 ∙ e in
     let level : m ≡ l = cc in
@@ -135,8 +135,9 @@ module _ (K : Kind) (L : Layout) (i c h : ℕ) (t : Places) (f : Entries) (insid
       }
       go ok (node m a b) g sd = absurd (none m sd.0 sd.1 sd.2)
 
-  pub deeper_restricted : (l x y : ℕ) → holds t h ≡ node_at l x y → L.level i < l → Restricted K L i c h t t f f (Some h)
-  deeper_restricted l x y e lt =
+  pub deeper_restricted : (l x y : ℕ) → node_at l x y ≡ holds t h → L.level i < l → Restricted K L i c h t t f f (Some h)
+  deeper_restricted l x y here lt =
+      let e : holds t h ≡ node_at l x y = sym here in
       let gt : compare l (L.level i) ≡ Ordering.gt = grind arith in
       easy (itself_under t h (ap in_use e)) (λ ok. by_children K L t (Easy K L i c t h) h l x y e (λ a b g sd sa sb. record {
         answer = subst (λ z. Stands (holds t) z h) (way_result K L i c l a b Ordering.gt gt ok (g, inside, small)) sd;
@@ -169,18 +170,18 @@ module _ (K : Kind) (L : Layout) (i c h : ℕ) (t : Places) (f : Entries) (insid
       record { answer = subst (λ z. Stands (holds t) z n) w.answer q.0; calls = w.calls ∙ q.1; short = w.short })
 
   -- What the store is asked under the key and answers, if its answer is trusted.
-  pub hit_restricted : {l x y n : ℕ} {k : Key} {r : Option ℕ} → holds t h ≡ node_at l x y → k ≡ restrict_key h i c → r ≡ f k → Trusted t l r (Some n)
+  pub hit_restricted : {l x y n : ℕ} {k : Key} {r : Option ℕ} → node_at l x y ≡ holds t h → k ≡ restrict_key h i c → r ≡ f k → Trusted t l r (Some n)
       → Restricted K L i c h t t f f (Some n)
   hit_restricted {n = n} e keyed asked found = record {
     kept = stays t;
-    inside = subst (λ l. Under t l n) (sym (ap depth e)) found.1;
+    inside = subst (λ l. Under t l n) (ap depth e) found.1;
     done = λ ok d sd p sound.
         found_answered (model L f p t) (restrict d i c) (restrict_key h i c) n sound (good_of f p t sound d h sd, inside, small)
         (restrict_keyed L f p t d i c h sd) (ap f (sym keyed) ∙ sym asked ∙ found.0);
   }
 
 -- A node stands on its level.
-pub node_depth : (t : Places) (h l x y : ℕ) → holds t h ≡ node_at l x y → depth (holds t h) ≡ l
+pub node_depth : (t : Places) (h l x y : ℕ) → node_at l x y ≡ holds t h → l ≡ depth (holds t h)
 node_depth t h l x y e = ap depth e
 
 -- A constant is 0 or 1.
@@ -205,10 +206,10 @@ module _ (K : Kind) (L : Layout) (i h : ℕ) (t : Places) (f : Entries) (inside 
   choice x y e negative (suc c) small q facts = one_left K L i (suc c) h t f inside small (children_under t h _ x y e).0 facts (λ a b sa sb. (sa, refl))
 
   -- What the code chooses at the mark's level.
-  pub at_node : (c : ℕ) → c < 2 → (l x y : ℕ) → holds t h ≡ node_at l x y → l ≡ L.level i → (r : Left) (s : Decomposition)
+  pub at_node : (c : ℕ) → c < 2 → (l x y : ℕ) → node_at l x y ≡ holds t h → l ≡ L.level i → (r : Left) (s : Decomposition)
       → r ≡ left_of s c x y → s ≡ L.type l → AtNode K L i c h t f r
   at_node c small l x y e at r s told typed =
-      let here : holds t h ≡ node_at (L.level i) x y = e ∙ ap (λ n. node_at n x y) at in
+      let here : holds t h ≡ node_at (L.level i) x y = sym e ∙ ap (λ n. node_at n x y) at in
       let same : s ≡ L.type (L.level i) = typed ∙ ap L.type at in
       subst (AtNode K L i c h t f) (sym (told ∙ ap (λ s. left_of s c x y) same))
       (choice x y here (L.type (L.level i)) c small refl (at_mark K L i c h t f inside small x y here))
@@ -216,12 +217,12 @@ module _ (K : Kind) (L : Layout) (i h : ℕ) (t : Places) (f : Entries) (inside 
 -- Where the sum of the children is left, that sum is the one smaller call and its result the answer.
 sum_left : (K : Kind) (L : Layout) (s : Decomposition) (c x y : ℕ) → left_of s c x y ≡ Sum x y → (a b : Diagram)
     → (chosen K L s c a b ≡ result K L (combine sum a b)) × (choosing K L s c a b ≡ combine sum a b ∷ [])
-sum_left K L shannon zero x y e a b = let z : ◌≡◌ {A = ℕ} 0 1 = cc in absurd (omega arith)
-sum_left K L shannon (suc c) x y e a b = let z : ◌≡◌ {A = ℕ} 0 1 = cc in absurd (omega arith)
-sum_left K L positive zero x y e a b = let z : ◌≡◌ {A = ℕ} 0 1 = cc in absurd (omega arith)
+sum_left K L shannon zero x y e a b = cc
+sum_left K L shannon (suc c) x y e a b = cc
+sum_left K L positive zero x y e a b = cc
 sum_left K L positive (suc c) x y e a b = (refl, refl)
 sum_left K L negative zero x y e a b = (refl, refl)
-sum_left K L negative (suc c) x y e a b = let z : ◌≡◌ {A = ℕ} 0 1 = cc in absurd (omega arith)
+sum_left K L negative (suc c) x y e a b = cc
 
 -- A shortcut with one smaller call, whose answer is its own.
 module _ {K : Kind} {L : Layout} (ok : Lawful K L) (task part : Task) (fit : Fit K L 0 task) (same : result K L part ≡ result K L task)
@@ -267,10 +268,10 @@ sum_restricted {K} {L} {i} {c} {h} {x} {y} {t} {u} {f} {g} {r} inside small s w 
 }
 
 -- The code found a node above the mark, and asked the store in vain.
-pub above : {K : Kind} {L : Layout} {i c h l x y m : ℕ} {t : Places} {f : Entries} {k : Key} {r : Option ℕ} → holds t h ≡ node_at l x y → m ≡ L.level i
+pub above : {K : Kind} {L : Layout} {i c h l x y m : ℕ} {t : Places} {f : Entries} {k : Key} {r : Option ℕ} → node_at l x y ≡ holds t h → m ≡ L.level i
     → l ≤ m → ¬ (l ≡ m) → k ≡ restrict_key h i c → r ≡ f k → Trusted t l r None → Above K L i c h t f l x y
 above {f = f} e at reached apart keyed asked missed = record {
-  node = e;
+  node = sym e;
   higher = omega arith;
   missed = λ n q. missed n (asked ∙ ap f keyed ∙ q);
 }
