@@ -344,9 +344,8 @@ module _ {K : Kind} {L : Layout} {i c h l x y : ℕ} {t : Places} {f : Entries} 
         d (good_of f p t sound d h sd) sd;
   }
 
-  pub low_stops : {t1 : Places} {f1 : Entries} {r : Option ℕ} → r ≡ None → Restricted K L i c x t t1 f f1 None → Restricted K L i c h t t1 f f1 r
-  low_stops {t1} {f1} n w = subst (Restricted K L i c h t t1 f f1) (sym n)
-      (restricted w.kept tt (λ C. way_stop (task C) (start C) (restrict C.a i c) (mem_low C) (w.done C.ok C.a C.sa C.phase C.sound)))
+  pub low_stops : {t1 : Places} {f1 : Entries} → Restricted K L i c x t t1 f f1 None → Restricted K L i c h t t1 f f1 None
+  low_stops w = restricted w.kept tt (λ C. way_stop (task C) (start C) (restrict C.a i c) (mem_low C) (w.done C.ok C.a C.sa C.phase C.sound))
 
   module _ {t1 : Places} {f1 : Entries} {n1 : ℕ} (w1 : Restricted K L i c x t t1 f f1 (Some n1)) where
     low_done : (C : Case) → BroughtBack K L (restrict C.a i c) (restrict_key x i c) (before C) (model L f1 C.phase t1) n1
@@ -359,9 +358,8 @@ module _ {K : Kind} {L : Layout} {i c h l x y : ℕ} {t : Places} {f : Entries} 
         → Finished K L (restrict C.b i c) (restrict_key y i c) (model L f1 C.phase t1) (model L f2 C.phase t2) r
     high_done w C = w.done C.ok C.b (stands_still w1.kept C.b y C.sb) C.phase (way1 C).sound
 
-    pub high_stops : {t2 : Places} {f2 : Entries} {r : Option ℕ} → r ≡ None → Restricted K L i c y t1 t2 f1 f2 None → Restricted K L i c h t t2 f f2 r
-    high_stops {t2} {f2} n w = subst (Restricted K L i c h t t2 f f2) (sym n)
-        (restricted (then w1.kept w.kept) tt (λ C. way_stop (task C) (way1 C) (restrict C.b i c) (mem_high C) (high_done w C)))
+    pub high_stops : {t2 : Places} {f2 : Entries} → Restricted K L i c y t1 t2 f1 f2 None → Restricted K L i c h t t2 f f2 None
+    high_stops w = restricted (then w1.kept w.kept) tt (λ C. way_stop (task C) (way1 C) (restrict C.b i c) (mem_high C) (high_done w C))
 
     pub both_restricted : {t2 u : Places} {f2 g : Entries} {n2 : ℕ} {r : Option ℕ} → Restricted K L i c y t1 t2 f1 f2 (Some n2) → Joined L t2 u l n1 n2 r
         → (k : Key) → k ≡ restrict_key h i c → Closed f2 g k r → Restricted K L i c h t u f g r

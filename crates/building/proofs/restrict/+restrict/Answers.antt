@@ -34,9 +34,9 @@ returns-in-Some g t c =
 
 pub returns-in_err-x : goal.returns-in_err-x
 returns-in_err-x g t c =
-    low_stops c.requires.mark (constant_small c.args.constant)
-    (above c.in-Node.ensures c.level-target.ensures c.if-level-target.false c.if-level-target-2.false c.stored_under-key.ensures c.ask.ensures c.in_default-trusted.ensures)
-    c.from_residual.ensures c.in_err-x.ensures
+    rw c.from_residual.ensures
+    (low_stops c.requires.mark (constant_small c.args.constant)
+    (above c.in-Node.ensures c.level-target.ensures c.if-level-target.false c.if-level-target-2.false c.stored_under-key.ensures c.ask.ensures c.in_default-trusted.ensures) c.in_err-x.ensures)
 
 pub restrict-requires-2 : goal.restrict-requires-2
 restrict-requires-2 g t c κs within =
@@ -46,9 +46,10 @@ restrict-requires-2 g t c κs within =
 
 pub returns-in_err-y : goal.returns-in_err-y
 returns-in_err-y g t c =
-    high_stops c.requires.mark (constant_small c.args.constant)
+    rw c.from_residual-in_err-y.ensures
+    (high_stops c.requires.mark (constant_small c.args.constant)
     (above c.in-Node.ensures c.level-target.ensures c.if-level-target.false c.if-level-target-2.false c.stored_under-key.ensures c.ask.ensures c.in_default-trusted.ensures)
-    c.in_ok-x.ensures c.from_residual-in_err-y.ensures c.in_err-y.ensures
+    c.in_ok-x.ensures c.in_err-y.ensures)
 
 pub finish-requires : goal.finish-requires
 finish-requires g t c =
