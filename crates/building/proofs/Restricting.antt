@@ -56,7 +56,7 @@ module _ (K : Kind) (L : Layout) (i c h : ℕ) where
 -- A node's diagram, by its children.
 parts_of : (t : Places) (d : Diagram) (h l x y : ℕ) → Stands (holds t) d h → holds t h ≡ node_at l x y
     → (a : Diagram) × (b : Diagram) × (d ≡ node l a b) × Stands (holds t) a x × Stands (holds t) b y
-parts_of t (leaf v) h l x y p e = let q : leaf_word v ≡ node_at l x y = sym p ∙ e in let z : ◌≡◌ {A = ℕ} 0 1 = cc in absurd (omega arith)
+parts_of t (leaf v) h l x y p e = let q : leaf_word v ≡ node_at l x y = sym p ∙ e in cc
 parts_of t (node m a b) h l x y p e =
     let q : node_at m p.0 p.1 ≡ node_at l x y = sym p.2 ∙ e in
     let level : m ≡ l = cc in
@@ -135,8 +135,9 @@ module _ (K : Kind) (L : Layout) (i c h : ℕ) (t : Places) (f : Entries) (insid
       }
       go ok (node m a b) g sd = absurd (none m sd.0 sd.1 sd.2)
 
-  pub deeper_restricted : (l x y : ℕ) → holds t h ≡ node_at l x y → L.level i < l → Restricted K L i c h t t f f (Some h)
-  deeper_restricted l x y e lt =
+  pub deeper_restricted : (l x y : ℕ) → node_at l x y ≡ holds t h → L.level i < l → Restricted K L i c h t t f f (Some h)
+  deeper_restricted l x y here lt =
+      let e : holds t h ≡ node_at l x y = sym here in
       let gt : compare l (L.level i) ≡ Ordering.gt = grind arith in
       easy (itself_under t h (ap in_use e)) (λ ok. by_children K L t (Easy K L i c t h) h l x y e (λ a b g sd sa sb. record {
         answer = subst (λ z. Stands (holds t) z h) (way_result K L i c l a b Ordering.gt gt ok (g, inside, small)) sd;
@@ -169,18 +170,18 @@ module _ (K : Kind) (L : Layout) (i c h : ℕ) (t : Places) (f : Entries) (insid
       record { answer = subst (λ z. Stands (holds t) z n) w.answer q.0; calls = w.calls ∙ q.1; short = w.short })
 
   -- What the store is asked under the key and answers, if its answer is trusted.
-  pub hit_restricted : {l x y n : ℕ} {k : Key} {r : Option ℕ} → holds t h ≡ node_at l x y → k ≡ restrict_key h i c → r ≡ f k → Trusted t l r (Some n)
+  pub hit_restricted : {l x y n : ℕ} {k : Key} {r : Option ℕ} → node_at l x y ≡ holds t h → k ≡ restrict_key h i c → r ≡ f k → Trusted t l r (Some n)
       → Restricted K L i c h t t f f (Some n)
   hit_restricted {n = n} e keyed asked found = record {
     kept = stays t;
-    inside = subst (λ l. Under t l n) (sym (ap depth e)) found.1;
+    inside = subst (λ l. Under t l n) (ap depth e) found.1;
     done = λ ok d sd p sound.
         found_answered (model L f p t) (restrict d i c) (restrict_key h i c) n sound (good_of f p t sound d h sd, inside, small)
         (restrict_keyed L f p t d i c h sd) (ap f (sym keyed) ∙ sym asked ∙ found.0);
   }
 
 -- A node stands on its level.
-pub node_depth : (t : Places) (h l x y : ℕ) → holds t h ≡ node_at l x y → depth (holds t h) ≡ l
+pub node_depth : (t : Places) (h l x y : ℕ) → node_at l x y ≡ holds t h → l ≡ depth (holds t h)
 node_depth t h l x y e = ap depth e
 
 -- A constant is 0 or 1.
@@ -205,10 +206,10 @@ module _ (K : Kind) (L : Layout) (i h : ℕ) (t : Places) (f : Entries) (inside 
   choice x y e negative (suc c) small q facts = one_left K L i (suc c) h t f inside small (children_under t h _ x y e).0 facts (λ a b sa sb. (sa, refl))
 
   -- What the code chooses at the mark's level.
-  pub at_node : (c : ℕ) → c < 2 → (l x y : ℕ) → holds t h ≡ node_at l x y → l ≡ L.level i → (r : Left) (s : Decomposition)
+  pub at_node : (c : ℕ) → c < 2 → (l x y : ℕ) → node_at l x y ≡ holds t h → l ≡ L.level i → (r : Left) (s : Decomposition)
       → r ≡ left_of s c x y → s ≡ L.type l → AtNode K L i c h t f r
   at_node c small l x y e at r s told typed =
-      let here : holds t h ≡ node_at (L.level i) x y = e ∙ ap (λ n. node_at n x y) at in
+      let here : holds t h ≡ node_at (L.level i) x y = sym e ∙ ap (λ n. node_at n x y) at in
       let same : s ≡ L.type (L.level i) = typed ∙ ap L.type at in
       subst (AtNode K L i c h t f) (sym (told ∙ ap (λ s. left_of s c x y) same))
       (choice x y here (L.type (L.level i)) c small refl (at_mark K L i c h t f inside small x y here))
@@ -216,12 +217,12 @@ module _ (K : Kind) (L : Layout) (i h : ℕ) (t : Places) (f : Entries) (inside 
 -- Where the sum of the children is left, that sum is the one smaller call and its result the answer.
 sum_left : (K : Kind) (L : Layout) (s : Decomposition) (c x y : ℕ) → left_of s c x y ≡ Sum x y → (a b : Diagram)
     → (chosen K L s c a b ≡ result K L (combine sum a b)) × (choosing K L s c a b ≡ combine sum a b ∷ [])
-sum_left K L shannon zero x y e a b = let z : ◌≡◌ {A = ℕ} 0 1 = cc in absurd (omega arith)
-sum_left K L shannon (suc c) x y e a b = let z : ◌≡◌ {A = ℕ} 0 1 = cc in absurd (omega arith)
-sum_left K L positive zero x y e a b = let z : ◌≡◌ {A = ℕ} 0 1 = cc in absurd (omega arith)
+sum_left K L shannon zero x y e a b = cc
+sum_left K L shannon (suc c) x y e a b = cc
+sum_left K L positive zero x y e a b = cc
 sum_left K L positive (suc c) x y e a b = (refl, refl)
 sum_left K L negative zero x y e a b = (refl, refl)
-sum_left K L negative (suc c) x y e a b = let z : ◌≡◌ {A = ℕ} 0 1 = cc in absurd (omega arith)
+sum_left K L negative (suc c) x y e a b = cc
 
 -- A shortcut with one smaller call, whose answer is its own.
 module _ {K : Kind} {L : Layout} (ok : Lawful K L) (task part : Task) (fit : Fit K L 0 task) (same : result K L part ≡ result K L task)
@@ -267,10 +268,10 @@ sum_restricted {K} {L} {i} {c} {h} {x} {y} {t} {u} {f} {g} {r} inside small s w 
 }
 
 -- The code found a node above the mark, and asked the store in vain.
-pub above : {K : Kind} {L : Layout} {i c h l x y m : ℕ} {t : Places} {f : Entries} {k : Key} {r : Option ℕ} → holds t h ≡ node_at l x y → m ≡ L.level i
+pub above : {K : Kind} {L : Layout} {i c h l x y m : ℕ} {t : Places} {f : Entries} {k : Key} {r : Option ℕ} → node_at l x y ≡ holds t h → m ≡ L.level i
     → l ≤ m → ¬ (l ≡ m) → k ≡ restrict_key h i c → r ≡ f k → Trusted t l r None → Above K L i c h t f l x y
 above {f = f} e at reached apart keyed asked missed = record {
-  node = e;
+  node = sym e;
   higher = omega arith;
   missed = λ n q. missed n (asked ∙ ap f keyed ∙ q);
 }
@@ -343,9 +344,8 @@ module _ {K : Kind} {L : Layout} {i c h l x y : ℕ} {t : Places} {f : Entries} 
         d (good_of f p t sound d h sd) sd;
   }
 
-  pub low_stops : {t1 : Places} {f1 : Entries} {r : Option ℕ} → r ≡ None → Restricted K L i c x t t1 f f1 None → Restricted K L i c h t t1 f f1 r
-  low_stops {t1} {f1} n w = subst (Restricted K L i c h t t1 f f1) (sym n)
-      (restricted w.kept tt (λ C. way_stop (task C) (start C) (restrict C.a i c) (mem_low C) (w.done C.ok C.a C.sa C.phase C.sound)))
+  pub low_stops : {t1 : Places} {f1 : Entries} → Restricted K L i c x t t1 f f1 None → Restricted K L i c h t t1 f f1 None
+  low_stops w = restricted w.kept tt (λ C. way_stop (task C) (start C) (restrict C.a i c) (mem_low C) (w.done C.ok C.a C.sa C.phase C.sound))
 
   module _ {t1 : Places} {f1 : Entries} {n1 : ℕ} (w1 : Restricted K L i c x t t1 f f1 (Some n1)) where
     low_done : (C : Case) → BroughtBack K L (restrict C.a i c) (restrict_key x i c) (before C) (model L f1 C.phase t1) n1
@@ -358,9 +358,8 @@ module _ {K : Kind} {L : Layout} {i c h l x y : ℕ} {t : Places} {f : Entries} 
         → Finished K L (restrict C.b i c) (restrict_key y i c) (model L f1 C.phase t1) (model L f2 C.phase t2) r
     high_done w C = w.done C.ok C.b (stands_still w1.kept C.b y C.sb) C.phase (way1 C).sound
 
-    pub high_stops : {t2 : Places} {f2 : Entries} {r : Option ℕ} → r ≡ None → Restricted K L i c y t1 t2 f1 f2 None → Restricted K L i c h t t2 f f2 r
-    high_stops {t2} {f2} n w = subst (Restricted K L i c h t t2 f f2) (sym n)
-        (restricted (then w1.kept w.kept) tt (λ C. way_stop (task C) (way1 C) (restrict C.b i c) (mem_high C) (high_done w C)))
+    pub high_stops : {t2 : Places} {f2 : Entries} → Restricted K L i c y t1 t2 f1 f2 None → Restricted K L i c h t t2 f f2 None
+    high_stops w = restricted (then w1.kept w.kept) tt (λ C. way_stop (task C) (way1 C) (restrict C.b i c) (mem_high C) (high_done w C))
 
     pub both_restricted : {t2 u : Places} {f2 g : Entries} {n2 : ℕ} {r : Option ℕ} → Restricted K L i c y t1 t2 f1 f2 (Some n2) → Joined L t2 u l n1 n2 r
         → (k : Key) → k ≡ restrict_key h i c → Closed f2 g k r → Restricted K L i c h t u f g r

@@ -195,14 +195,14 @@ module _ {K : Kind} {L : Layout} {o : Operation} {a b : ℕ} {t : Places} {f : E
     made : {n : ℕ} → Combined K L p x y u v g h (Some n) → (C : On) → Stands (holds v) (result K L (combine p (dx C) (dy C))) n
     made {n} w C = stands_seen L h C.phase v (result K L (combine p (dx C) (dy C))) n (came w C).stands
 
-    stopped : {r : Option ℕ} → r ≡ None → Combined K L p x y u v g h None → Combined K L o a b t v f h r
-    stopped e w = subst (Combined K L o a b t v f h) (sym e) (record {
+    stopped : Combined K L p x y u v g h None → Combined K L o a b t v f h None
+    stopped w = record {
       kept = then s.kept w.kept;
       inside = tt;
       done = λ ok d e sd se phase sound.
           let C : On = record { ok = ok; d = d; e = e; sd = sd; se = se; phase = phase; sound = sound } in
           way_stop (task C) (s.way C) (combine p (dx C) (dy C)) (q.part C) (came w C);
-    })
+    }
 
   -- All smaller calls were worked, and the node of their answers was asked for.
   ended : {A : On → List Task} {u v : Places} {g h : Entries} {x y : ℕ} {r : Option ℕ} → Stage A u g
@@ -239,7 +239,7 @@ module _ {K : Kind} {L : Layout} {o : Operation} {a b : ℕ} {t : Places} {f : E
   piece1 : Piece o la lb t (λ C. low K L l C.d) (λ C. low K L l C.e)
   piece1 = record { left = la_still (stays t); right = lb_still (stays t); part = mem_low }
 
-  pub stop1 : {t1 : Places} {f1 : Entries} {r : Option ℕ} → r ≡ None → Combined K L o la lb t t1 f f1 None → Combined K L o a b t t1 f f1 r
+  pub stop1 : {t1 : Places} {f1 : Entries} → Combined K L o la lb t t1 f f1 None → Combined K L o a b t t1 f f1 None
   stop1 = stopped started piece1
 
   module _ {t1 : Places} {f1 : Entries} {x1 : ℕ} (w1 : Combined K L o la lb t t1 f f1 (Some x1)) where
@@ -262,7 +262,7 @@ module _ {K : Kind} {L : Layout} {o : Operation} {a b : ℕ} {t : Places} {f : E
         part = λ C. subst (λ p. Memᴰ p (smaller K L (task C))) (plain C).0 (mem_high C);
       }
 
-      pub high_stop : {t2 : Places} {f2 : Entries} {r : Option ℕ} → r ≡ None → Combined K L o ha hb t1 t2 f1 f2 None → Combined K L o a b t t2 f f2 r
+      pub high_stop : {t2 : Places} {f2 : Entries} → Combined K L o ha hb t1 t2 f1 f2 None → Combined K L o a b t t2 f f2 None
       high_stop = stopped stage1 piece
 
       pub both : {t2 u : Places} {f2 g : Entries} {x2 : ℕ} {r : Option ℕ} → Combined K L o ha hb t1 t2 f1 f2 (Some x2)
@@ -300,7 +300,7 @@ module _ {K : Kind} {L : Layout} {o : Operation} {a b : ℕ} {t : Places} {f : E
       piece2 : Piece product la hb t1 (λ C. low K L l C.d) (λ C. high K L l C.e)
       piece2 = record { left = la_still w1.kept; right = hb_still w1.kept; part = λ C. on_way C _ (Memᴰ.head refl) }
 
-      pub stop2 : {t2 : Places} {f2 : Entries} {r : Option ℕ} → r ≡ None → Combined K L product la hb t1 t2 f1 f2 None → Combined K L o a b t t2 f f2 r
+      pub stop2 : {t2 : Places} {f2 : Entries} → Combined K L product la hb t1 t2 f1 f2 None → Combined K L o a b t t2 f f2 None
       stop2 = stopped stage1 piece2
 
       module _ {t2 : Places} {f2 : Entries} {x2 : ℕ} (w2 : Combined K L product la hb t1 t2 f1 f2 (Some x2)) where
@@ -313,7 +313,7 @@ module _ {K : Kind} {L : Layout} {o : Operation} {a b : ℕ} {t : Places} {f : E
         piece3 : Piece product ha lb t2 (λ C. high K L l C.d) (λ C. low K L l C.e)
         piece3 = record { left = ha_still stage2.kept; right = lb_still stage2.kept; part = λ C. on_way C _ (Memᴰ.tail (Memᴰ.head refl)) }
 
-        pub stop3 : {t3 : Places} {f3 : Entries} {r : Option ℕ} → r ≡ None → Combined K L product ha lb t2 t3 f2 f3 None → Combined K L o a b t t3 f f3 r
+        pub stop3 : {t3 : Places} {f3 : Entries} → Combined K L product ha lb t2 t3 f2 f3 None → Combined K L o a b t t3 f f3 None
         stop3 = stopped stage2 piece3
 
         module _ {t3 : Places} {f3 : Entries} {x3 : ℕ} (w3 : Combined K L product ha lb t2 t3 f2 f3 (Some x3)) where
@@ -330,7 +330,7 @@ module _ {K : Kind} {L : Layout} {o : Operation} {a b : ℕ} {t : Places} {f : E
             part = λ C. on_way C _ (Memᴰ.tail (Memᴰ.tail (Memᴰ.head refl)));
           }
 
-          pub stop4 : {t4 : Places} {f4 : Entries} {r : Option ℕ} → r ≡ None → Combined K L sum x2 x3 t3 t4 f3 f4 None → Combined K L o a b t t4 f f4 r
+          pub stop4 : {t4 : Places} {f4 : Entries} → Combined K L sum x2 x3 t3 t4 f3 f4 None → Combined K L o a b t t4 f f4 None
           stop4 = stopped stage3 piece4
 
           module _ {t4 : Places} {f4 : Entries} {x4 : ℕ} (w4 : Combined K L sum x2 x3 t3 t4 f3 f4 (Some x4)) where
@@ -347,7 +347,7 @@ module _ {K : Kind} {L : Layout} {o : Operation} {a b : ℕ} {t : Places} {f : E
               part = λ C. on_way C _ (Memᴰ.tail (Memᴰ.tail (Memᴰ.tail (Memᴰ.head refl))));
             }
 
-            pub stop5 : {t5 : Places} {f5 : Entries} {r : Option ℕ} → r ≡ None → Combined K L product ha hb t4 t5 f4 f5 None → Combined K L o a b t t5 f f5 r
+            pub stop5 : {t5 : Places} {f5 : Entries} → Combined K L product ha hb t4 t5 f4 f5 None → Combined K L o a b t t5 f f5 None
             stop5 = stopped stage4 piece5
 
             module _ {t5 : Places} {f5 : Entries} {x5 : ℕ} (w5 : Combined K L product ha hb t4 t5 f4 f5 (Some x5)) where
@@ -364,7 +364,7 @@ module _ {K : Kind} {L : Layout} {o : Operation} {a b : ℕ} {t : Places} {f : E
                 part = λ C. subst (λ p. Memᴰ p (smaller K L (task C))) (cross C).0 (mem_high C);
               }
 
-              pub stop6 : {t6 : Places} {f6 : Entries} {r : Option ℕ} → r ≡ None → Combined K L sum x4 x5 t5 t6 f5 f6 None → Combined K L o a b t t6 f f6 r
+              pub stop6 : {t6 : Places} {f6 : Entries} → Combined K L sum x4 x5 t5 t6 f5 f6 None → Combined K L o a b t t6 f f6 None
               stop6 = stopped stage5 piece6
 
               pub all_six : {t6 u : Places} {f6 g : Entries} {x6 : ℕ} {r : Option ℕ} → Combined K L sum x4 x5 t5 t6 f5 f6 (Some x6)

@@ -97,8 +97,8 @@ pub fn combine<K: Value, S: Store>(
         let mixed = combine::<K, S>(places, store, layout, Operation::Sum, lh, hl)?;
         let hh = combine::<K, S>(places, store, layout, Operation::Product, ha, hb)?;
         let high = combine::<K, S>(places, store, layout, Operation::Sum, mixed, hh)?;
-        return finish::<S>(places, store, layout, key, level, low, high);
+        return finish(places, store, layout, key, level, low, high);
     }
     let high = combine::<K, S>(places, store, layout, operation, ha, hb)?;
-    finish::<S>(places, store, layout, key, level, low, high)
+    finish(places, store, layout, key, level, low, high)
 }

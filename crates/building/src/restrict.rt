@@ -33,7 +33,8 @@ fn stored_under(h: u16, mark: u8, constant: bool) -> Key
     }
 }
 
-// What a restriction leaves of a node of its mark, on a level of that type.
+// What a restriction leaves of a node of its mark, on a level of that type. The walk of grading turns by the same six rows: one type for both would
+// need a crate of its own under both, which is no plainer.
 fn choose(form: Form, constant: bool, low: u16, high: u16) -> Left
     ensures { result ≡ left_of (decomposition form) (from_bool constant) low high }
 {
@@ -79,5 +80,5 @@ pub fn restrict<K: Value, S: Store>(
     }
     let x = restrict::<K, S>(places, store, layout, low, mark, constant)?;
     let y = restrict::<K, S>(places, store, layout, high, mark, constant)?;
-    finish::<S>(places, store, layout, key, level, x, y)
+    finish(places, store, layout, key, level, x, y)
 }

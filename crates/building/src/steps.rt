@@ -34,6 +34,8 @@ pub fn parts(places: &Places, layout: &Layout, level: u8, h: u16) -> (u16, u16)
     }
 }
 
+// A level and its two parts go one by one, as places and layouts give and take them: a struct would be taken apart at each call.
+
 // The node of two parts at a level, unless the drop rule removes it: what has the parts of a deeper handle is that handle.
 pub fn join(places: &mut Places, layout: &Layout, level: u8, low: u16, high: u16) -> Option<u16>
     requires within { level < 32 }

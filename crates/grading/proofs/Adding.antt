@@ -1,5 +1,5 @@
 -- What the open places still add, and that their turns come to the rule's value. Assumes nothing.
-use Rattle.std.proofs.Common.{◌≡◌, ℕ, zero, suc, ◌<◌, T, eqb, List, [], ◌∷◌, ◌++◌, sym, refl, ap, ◌∙◌, subst, ap₂, arith}
+use Rattle.std.proofs.Common.{◌≡◌, ℕ, zero, suc, ◌<◌, T, eqb, List, [], ◌∷◌, ◌++◌, sym, refl, ap, ◌∙◌, subst, arith}
 use Rattle.diagrams.specs.Kinds.{Kind}
 use Rattle.diagrams.specs.Layouts.{Decomposition, shannon, positive, negative, Layout, bit}
 use Rattle.diagrams.specs.Diagrams.{Lawful, Diagram, leaf, node, join, rule, Good}
@@ -90,28 +90,23 @@ module _ (K : Kind) (L : Layout) (ok : Lawful K L) (t : Places) (fruit : ℕ) wh
           }
           )
 
-  pub began : (h : ℕ) (hs : List ℕ) (total : ℕ) → hs ≡ h ∷ [] → total ≡ K.zero → Adding K L t fruit h hs total
-  began h hs total e z = subst (λ (xs : List ℕ). Adding K L t fruit h xs total) (sym e) (record { stacked = (omega arith, tt); left = alone })
+  pub began : (h : ℕ) → Adding K L t fruit h (h ∷ []) K.zero
+  began h = record { stacked = (omega arith, tt); left = alone }
     where
-      alone : (d : Diagram) → Stands (holds t) d h → Good K L 0 d → Left K L t fruit (h ∷ []) total (rule K L d fruit)
+      alone : (d : Diagram) → Stands (holds t) d h → Good K L 0 d → Left K L t fruit (h ∷ []) K.zero (rule K L d fruit)
       alone d p g =
           let a : ℕ = rule K L d fruit in
           let v : T (K.value a) = rule_value ok 0 d g fruit in
-          let same : K.sum a K.zero ≡ a = laws.arithmetic.sum_zero a v in
           record {
             rest = K.sum a K.zero;
             sums = (d, K.zero, p, g, refl, refl);
-            whole = sym (ap₂ K.sum z same ∙ zero_sum a v);
-            value = rw z laws.arithmetic.zero_value;
+            whole = sym (ap (K.sum K.zero) (laws.arithmetic.sum_zero a v) ∙ zero_sum a v);
+            value = laws.arithmetic.zero_value;
           }
 
-  pub went : (handle h : ℕ) (before hs after : List ℕ) (total r more : ℕ) → before ≡ h ∷ hs → r ≡ worth K (holds t h)
-      → after ≡ opened L fruit (holds t h) ++ hs → more ≡ K.sum total r → Adding K L t fruit handle before total → Adding K L t fruit handle after more
-  went handle h before hs after total r more eb er ea em x =
-      let y : Adding K L t fruit handle (h ∷ hs) total = subst (λ (xs : List ℕ). Adding K L t fruit handle xs total) eb x in
-      subst (λ (xs : List ℕ). Adding K L t fruit handle xs more) (sym ea)
-      (subst (Adding K L t fruit handle (opened L fruit (holds t h) ++ hs)) (sym (em ∙ ap (K.sum total) er))
-      (record { stacked = opened_stacked t L fruit h hs y.stacked; left = λ d p g. on (y.left d p g) }))
+  pub went : (handle h : ℕ) (hs : List ℕ) (total : ℕ) → Adding K L t fruit handle (h ∷ hs) total
+      → Adding K L t fruit handle (opened L fruit (holds t h) ++ hs) (K.sum total (worth K (holds t h)))
+  went handle h hs total x = record { stacked = opened_stacked t L fruit h hs x.stacked; left = λ d p g. on (x.left d p g) }
     where
       on : {v : ℕ} → Left K L t fruit (h ∷ hs) total v → Left K L t fruit (opened L fruit (holds t h) ++ hs) (K.sum total (worth K (holds t h))) v
       on b =
@@ -124,9 +119,5 @@ module _ (K : Kind) (L : Layout) (ok : Lawful K L) (t : Places) (fruit : ℕ) wh
             value = laws.arithmetic.sum_value _ _ b.value s.value;
           }
 
-  pub ended : (handle : ℕ) (hs : List ℕ) (total : ℕ) → hs ≡ [] → Adding K L t fruit handle hs total
-      → (d : Diagram) → Stands (holds t) d handle → Good K L 0 d → total ≡ rule K L d fruit
-  ended handle hs total e x d p g =
-      let b = x.left d p g in
-      let none : b.rest ≡ K.zero = subst (λ (xs : List ℕ). Sums K L t fruit xs b.rest) e b.sums in
-      sym (b.whole ∙ ap (K.sum total) none ∙ laws.arithmetic.sum_zero total b.value)
+  pub ended : (handle total : ℕ) → Adding K L t fruit handle [] total → (d : Diagram) → Stands (holds t) d handle → Good K L 0 d → total ≡ rule K L d fruit
+  ended handle total x d p g = let b = x.left d p g in sym (b.whole ∙ ap (K.sum total) b.sums ∙ laws.arithmetic.sum_zero total b.value)

@@ -12,7 +12,9 @@ pub returns-in-Value : goal.returns-in-Value
 returns-in-Value g t c = value_combined (rw c.in-Value.is at c.in-Some.ensures) c.leaf.ensures
 
 pub returns-in_err-low : goal.returns-in_err-low
-returns-in_err-low g t c = stop1 (basis c.higher-level.ensures c.in_default.ensures c.parts-la.ensures c.parts-lb.ensures) c.from_residual.ensures c.in_err-low.ensures
+returns-in_err-low g t c =
+    rw c.from_residual.ensures
+    (stop1 (basis c.higher-level.ensures c.in_default.ensures c.parts-la.ensures c.parts-lb.ensures) c.in_err-low.ensures)
 
 pub combine-requires-then-crosses : goal.combine-requires-then-crosses
 combine-requires-then-crosses g t c κs within =
@@ -21,7 +23,9 @@ combine-requires-then-crosses g t c κs within =
     (omega (arith, p.level, p.small, q.0.level, q.1.level, c.decreases), (within.0, (within.1, (q.0.used, q.1.used))))
 
 pub returns-in_err-lh : goal.returns-in_err-lh
-returns-in_err-lh g t c = stop2 (basis c.higher-level.ensures c.in_default.ensures c.parts-la.ensures c.parts-lb.ensures) c.in_ok-low.ensures (crosses_by (meant c.args.operation) c.if-crosses.ensures c.form.ensures) c.from_residual-in_err-lh.ensures c.in_err-lh.ensures
+returns-in_err-lh g t c =
+    rw c.from_residual-in_err-lh.ensures
+    (stop2 (basis c.higher-level.ensures c.in_default.ensures c.parts-la.ensures c.parts-lb.ensures) c.in_ok-low.ensures (crosses_by (meant c.args.operation) c.if-crosses.ensures c.form.ensures) c.in_err-lh.ensures)
 
 pub combine-requires-then-crosses-2 : goal.combine-requires-then-crosses-2
 combine-requires-then-crosses-2 g t c κs within =
@@ -31,8 +35,8 @@ combine-requires-then-crosses-2 g t c κs within =
 
 pub returns-in_err-hl : goal.returns-in_err-hl
 returns-in_err-hl g t c =
-    stop3 (basis c.higher-level.ensures c.in_default.ensures c.parts-la.ensures c.parts-lb.ensures) c.in_ok-low.ensures (crosses_by (meant c.args.operation) c.if-crosses.ensures c.form.ensures) c.in_ok-lh.ensures
-    c.from_residual-in_err-hl.ensures c.in_err-hl.ensures
+    rw c.from_residual-in_err-hl.ensures
+    (stop3 (basis c.higher-level.ensures c.in_default.ensures c.parts-la.ensures c.parts-lb.ensures) c.in_ok-low.ensures (crosses_by (meant c.args.operation) c.if-crosses.ensures c.form.ensures) c.in_ok-lh.ensures c.in_err-hl.ensures)
 
 pub combine-requires-then-crosses-3 : goal.combine-requires-then-crosses-3
 combine-requires-then-crosses-3 g t c κs within =
@@ -42,8 +46,8 @@ combine-requires-then-crosses-3 g t c κs within =
 
 pub returns-in_err-mixed : goal.returns-in_err-mixed
 returns-in_err-mixed g t c =
-    stop4 (basis c.higher-level.ensures c.in_default.ensures c.parts-la.ensures c.parts-lb.ensures) c.in_ok-low.ensures (crosses_by (meant c.args.operation) c.if-crosses.ensures c.form.ensures) c.in_ok-lh.ensures c.in_ok-hl.ensures
-    c.from_residual-in_err-mixed.ensures c.in_err-mixed.ensures
+    rw c.from_residual-in_err-mixed.ensures
+    (stop4 (basis c.higher-level.ensures c.in_default.ensures c.parts-la.ensures c.parts-lb.ensures) c.in_ok-low.ensures (crosses_by (meant c.args.operation) c.if-crosses.ensures c.form.ensures) c.in_ok-lh.ensures c.in_ok-hl.ensures c.in_err-mixed.ensures)
 
 pub combine-requires-then-crosses-4 : goal.combine-requires-then-crosses-4
 combine-requires-then-crosses-4 g t c κs within =
@@ -53,8 +57,8 @@ combine-requires-then-crosses-4 g t c κs within =
 
 pub returns-in_err-hh : goal.returns-in_err-hh
 returns-in_err-hh g t c =
-    stop5 (basis c.higher-level.ensures c.in_default.ensures c.parts-la.ensures c.parts-lb.ensures) c.in_ok-low.ensures (crosses_by (meant c.args.operation) c.if-crosses.ensures c.form.ensures) c.in_ok-lh.ensures c.in_ok-hl.ensures c.in_ok-mixed.ensures
-    c.from_residual-in_err-hh.ensures c.in_err-hh.ensures
+    rw c.from_residual-in_err-hh.ensures
+    (stop5 (basis c.higher-level.ensures c.in_default.ensures c.parts-la.ensures c.parts-lb.ensures) c.in_ok-low.ensures (crosses_by (meant c.args.operation) c.if-crosses.ensures c.form.ensures) c.in_ok-lh.ensures c.in_ok-hl.ensures c.in_ok-mixed.ensures c.in_err-hh.ensures)
 
 pub combine-requires-then-crosses-5 : goal.combine-requires-then-crosses-5
 combine-requires-then-crosses-5 g t c κs within =
@@ -64,8 +68,8 @@ combine-requires-then-crosses-5 g t c κs within =
 
 pub returns-in_err-high : goal.returns-in_err-high
 returns-in_err-high g t c =
-    stop6 (basis c.higher-level.ensures c.in_default.ensures c.parts-la.ensures c.parts-lb.ensures) c.in_ok-low.ensures (crosses_by (meant c.args.operation) c.if-crosses.ensures c.form.ensures) c.in_ok-lh.ensures c.in_ok-hl.ensures c.in_ok-mixed.ensures c.in_ok-hh.ensures
-    c.from_residual-in_err-high.ensures c.in_err-high.ensures
+    rw c.from_residual-in_err-high.ensures
+    (stop6 (basis c.higher-level.ensures c.in_default.ensures c.parts-la.ensures c.parts-lb.ensures) c.in_ok-low.ensures (crosses_by (meant c.args.operation) c.if-crosses.ensures c.form.ensures) c.in_ok-lh.ensures c.in_ok-hl.ensures c.in_ok-mixed.ensures c.in_ok-hh.ensures c.in_err-high.ensures)
 
 pub finish-requires : goal.finish-requires
 finish-requires g t c =
@@ -85,7 +89,9 @@ combine-requires-2 g t c κs within =
     (omega (arith, p.level, p.small, q.0.level, q.1.level, c.decreases), (within.0, (within.1, (q.0.used, q.1.used))))
 
 pub returns-in_err-high-2 : goal.returns-in_err-high-2
-returns-in_err-high-2 g t c = high_stop (basis c.higher-level.ensures c.in_default.ensures c.parts-la.ensures c.parts-lb.ensures) c.in_ok-low.ensures (crosses_by (meant c.args.operation) c.if-crosses.ensures c.form.ensures) c.from_residual-in_err-high-2.ensures c.in_err-high-2.ensures
+returns-in_err-high-2 g t c =
+    rw c.from_residual-in_err-high-2.ensures
+    (high_stop (basis c.higher-level.ensures c.in_default.ensures c.parts-la.ensures c.parts-lb.ensures) c.in_ok-low.ensures (crosses_by (meant c.args.operation) c.if-crosses.ensures c.form.ensures) c.in_err-high-2.ensures)
 
 pub finish-requires-2 : goal.finish-requires-2
 finish-requires-2 g t c =

@@ -12,43 +12,44 @@ returns-in_default g t c =
 
 pub returns-then-level-target : goal.returns-then-level-target
 returns-then-level-target g t c =
-    deeper_restricted _ _ _ _ _ _ _ c.requires.mark (constant_small c.args.constant) _ _ _ (sym c.in-Node.ensures)
+    deeper_restricted _ _ _ _ _ _ _ c.requires.mark (constant_small c.args.constant) _ _ _ c.in-Node.ensures
     (subst (λ (n : ℕ). n < c.in-Node.level) c.level-target.ensures c.if-level-target.true)
 
 pub returns-in-Child : goal.returns-in-Child
 returns-in-Child g t c =
-    at_node _ _ _ _ _ _ c.requires.mark _ (constant_small c.args.constant) _ _ _ (sym c.in-Node.ensures)
+    at_node _ _ _ _ _ _ c.requires.mark _ (constant_small c.args.constant) _ _ _ c.in-Node.ensures
     (c.if-level-target-2.true ∙ c.level-target.ensures) _ _ c.in-Child.ensures c.form.ensures
 
 pub returns-in-Sum : goal.returns-in-Sum
 returns-in-Sum g t c =
     sum_restricted c.requires.mark (constant_small c.args.constant)
-    (at_node _ _ _ _ _ (g.S.Store.entries c.args.store.now) c.requires.mark _ (constant_small c.args.constant) _ _ _ (sym c.in-Node.ensures)
+    (at_node _ _ _ _ _ (g.S.Store.entries c.args.store.now) c.requires.mark _ (constant_small c.args.constant) _ _ _ c.in-Node.ensures
     (c.if-level-target-2.true ∙ c.level-target.ensures) _ _ c.in-Sum.ensures c.form.ensures)
     c.combine.ensures
 
 pub returns-in-Some : goal.returns-in-Some
 returns-in-Some g t c =
-    hit_restricted _ _ _ _ _ _ _ c.requires.mark (constant_small c.args.constant) (sym c.in-Node.ensures) c.stored_under-key.ensures c.ask.ensures
+    hit_restricted _ _ _ _ _ _ _ c.requires.mark (constant_small c.args.constant) c.in-Node.ensures c.stored_under-key.ensures c.ask.ensures
     c.in-Some.ensures
 
 pub returns-in_err-x : goal.returns-in_err-x
 returns-in_err-x g t c =
-    low_stops c.requires.mark (constant_small c.args.constant)
-    (above (sym c.in-Node.ensures) c.level-target.ensures c.if-level-target.false c.if-level-target-2.false c.stored_under-key.ensures c.ask.ensures c.in_default-trusted.ensures)
-    c.from_residual.ensures c.in_err-x.ensures
+    rw c.from_residual.ensures
+    (low_stops c.requires.mark (constant_small c.args.constant)
+    (above c.in-Node.ensures c.level-target.ensures c.if-level-target.false c.if-level-target-2.false c.stored_under-key.ensures c.ask.ensures c.in_default-trusted.ensures) c.in_err-x.ensures)
 
 pub restrict-requires-2 : goal.restrict-requires-2
 restrict-requires-2 g t c κs within =
     let n = node_under c.args.places.now c.args.h _ _ _ (sym c.in-Node.ensures) in
     let x = under_still c.in_ok-x.ensures.kept _ _ n.2 in
-    (omega (arith, n.0, node_depth c.args.places.now c.args.h _ _ _ (sym c.in-Node.ensures), x.level, c.decreases), (within.0, (within.1, (x.used, c.requires.mark))))
+    (omega (arith, n.0, node_depth c.args.places.now c.args.h _ _ _ c.in-Node.ensures, x.level, c.decreases), (within.0, (within.1, (x.used, c.requires.mark))))
 
 pub returns-in_err-y : goal.returns-in_err-y
 returns-in_err-y g t c =
-    high_stops c.requires.mark (constant_small c.args.constant)
-    (above (sym c.in-Node.ensures) c.level-target.ensures c.if-level-target.false c.if-level-target-2.false c.stored_under-key.ensures c.ask.ensures c.in_default-trusted.ensures)
-    c.in_ok-x.ensures c.from_residual-in_err-y.ensures c.in_err-y.ensures
+    rw c.from_residual-in_err-y.ensures
+    (high_stops c.requires.mark (constant_small c.args.constant)
+    (above c.in-Node.ensures c.level-target.ensures c.if-level-target.false c.if-level-target-2.false c.stored_under-key.ensures c.ask.ensures c.in_default-trusted.ensures)
+    c.in_ok-x.ensures c.in_err-y.ensures)
 
 pub finish-requires : goal.finish-requires
 finish-requires g t c =
@@ -64,5 +65,5 @@ finish-requires g t c =
 pub returns : goal.returns
 returns g t c =
     both_restricted c.requires.mark (constant_small c.args.constant)
-    (above (sym c.in-Node.ensures) c.level-target.ensures c.if-level-target.false c.if-level-target-2.false c.stored_under-key.ensures c.ask.ensures c.in_default-trusted.ensures)
+    (above c.in-Node.ensures c.level-target.ensures c.if-level-target.false c.if-level-target-2.false c.stored_under-key.ensures c.ask.ensures c.in_default-trusted.ensures)
     c.in_ok-x.ensures c.in_ok-y.ensures c.finish.ensures.joined _ c.stored_under-key.ensures c.finish.ensures.closed

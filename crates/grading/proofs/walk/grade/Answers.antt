@@ -16,8 +16,9 @@ lawful : (g : Over) (y : Layout) → Lawful g.K.Value.kind (view y)
 lawful g y = record { laws = g.K.Value.laws; valid = layout_valid y }
 
 pub loop-place-init : goal.loop-place-init
-loop-place-init g c = began _ _ (lawful g c.args.layout.now) _ _ _ _ _
-    (last_first _ [] _ (c.push.ensures.items ∙ ap (λ (xs : List ℕ). xs ++ (c.args.handle ∷ [])) c.new-frames.ensures)) (c.ZERO-total.ensures ∙ g.met.K.Value.zero_of_kind)
+loop-place-init g c =
+    rw (last_first _ [] _ (c.push.ensures.items ∙ ap (λ (xs : List ℕ). xs ++ (c.args.handle ∷ [])) c.new-frames.ensures), c.ZERO-total.ensures ∙ g.met.K.Value.zero_of_kind)
+    (began _ _ (lawful g c.args.layout.now) _ _ c.args.handle)
 
 pub visit-requires : goal.visit-requires
 visit-requires g c = (subst (Stacked c.args.places.now) (last_first _ _ _ c.in-Some.ensures.items) c.loop-place.invariant.stacked).0
@@ -30,8 +31,10 @@ loop-place-smaller g c =
 
 pub loop-place-preserved : goal.loop-place-preserved
 loop-place-preserved g c =
-    went _ _ (lawful g c.args.layout.now) _ _ _ _ _ _ _ _ _ _ (last_first _ _ _ c.in-Some.ensures.items) c.visit.ensures.gives c.visit.ensures.opens
-    c.sum-total.ensures c.loop-place.invariant
+    rw (c.visit.ensures.opens, c.sum-total.ensures, c.visit.ensures.gives)
+    (went _ _ (lawful g c.args.layout.now) _ _ _ _ _ _ (rw (last_first _ _ _ c.in-Some.ensures.items) at c.loop-place.invariant))
 
 pub returns : goal.returns
-returns g c = ended _ _ (lawful g c.args.layout.now) _ _ _ _ _ (none_left _ (λ some. false≢true (c.in_default.ensures.variant.1 some))) c.loop-place.invariant
+returns g c =
+    ended _ _ (lawful g c.args.layout.now) _ _ _ _
+    (rw (none_left _ (λ some. false≢true (c.in_default.ensures.variant.1 some))) at c.loop-place.invariant)
