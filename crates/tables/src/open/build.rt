@@ -148,16 +148,14 @@ impl<K: Value, S: Store> Open<K, S> {
         ))
     }
 
-    // The handle that building brought. Where there was no room the places come back as they were, and the store forgets, since an entry might name a
-    // place that was filled and emptied again.
+    // The handle that building brought, or that there was no room for it.
     fn settle(&mut self, saved: &Saved, answer: Option<u16>) -> Result<u32, Refusal>
         ensures { Settled S.Store.entries self.old self.new (kept saved.now) answer result }
     {
         match answer {
             Some(handle) => Ok(u32::from(handle)),
             None => {
-                self.places.undo(saved);
-                self.store.forget();
+                self.come_back(saved);
                 Err(Refusal::TableFull)
             }
         }
