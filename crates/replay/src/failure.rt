@@ -1,8 +1,11 @@
-// Why a journal cannot go on.
+// Why a command is not carried out.
+use crate::refused::Refused;
 use journal::{Mistake, Unread};
-use std::alloc::{AllocError, AllocFailed};
-use std::io;
+use refusals::{Refusal, TableFault};
+use std::alloc::AllocError;
+use std::{fmt, io};
 
+// Why a journal cannot go on.
 #[derive(Drop)]
 pub enum Failure {
     // The line is not a command.
@@ -20,27 +23,32 @@ pub enum Failure {
     // A fill of the output that is no byte.
     NotAByte,
     NoMemory,
-    Unreadable,
+    Unreadable(io::Error),
     // Standard output or standard error cannot be written.
     Unwritable,
 }
 
-impl Failure {
-    // What to tell the journal's author.
-    pub fn words(&self) -> &'static str {
+// What to tell the journal's author.
+impl fmt::Display for Failure {
+    fn fmt<W: fmt::Write>(&self, f: &mut fmt::Formatter<W>) -> fmt::Result {
         match self {
-            Failure::Line(mistake) => mistake.words(),
-            Failure::UnboundName =>
+            Failure::Line(mistake) => f.write_str(mistake.words()),
+            Failure::UnboundName => f.write_str(
                 "unbound name: bind it first, by NAME = and a command that answers a handle",
-            Failure::NoLayout => "no layout: begin one first, by layout N",
-            Failure::NoTable => "no table: make one first, by table KIND CAPACITY STORE",
-            Failure::NotOpen => "the table is released: this call needs an open table",
-            Failure::NotReleased => "the table is open: release it first",
-            Failure::LongList => "number out of range: a list has at most 16777216 entries",
-            Failure::NotAByte => "number out of range: a byte is 0 to 255",
-            Failure::NoMemory => "no memory is left",
-            Failure::Unreadable => "unreadable",
-            Failure::Unwritable => "the answer cannot be written",
+            ),
+            Failure::NoLayout => f.write_str("no layout: begin one first, by layout N"),
+            Failure::NoTable => f.write_str(
+                "no table: make one first, by table KIND CAPACITY STORE",
+            ),
+            Failure::NotOpen => f.write_str("the table is released: this call needs an open table"),
+            Failure::NotReleased => f.write_str("the table is open: release it first"),
+            Failure::LongList => f.write_str(
+                "number out of range: a list has at most 16777216 entries",
+            ),
+            Failure::NotAByte => f.write_str("number out of range: a byte is 0 to 255"),
+            Failure::NoMemory => f.write_str("no memory is left"),
+            Failure::Unreadable(error) => write!(f, "unreadable: {error}"),
+            Failure::Unwritable => f.write_str("the answer cannot be written"),
         }
     }
 }
@@ -72,8 +80,35 @@ impl From<Unread> for Failure {
     }
 }
 
-impl<T: Drop> From<AllocFailed<T>> for Failure {
-    fn from(_refused: AllocFailed<T>) -> Failure {
-        Failure::NoMemory
+// Says on standard error at which line a journal ends, and why.
+pub fn report(rt: &HostRuntime, line: u64, failure: Failure) -> Result<(), Failure> {
+    eprintln!(rt; "journal:{line}: {failure}")?;
+    Err(failure)
+}
+
+// Why a command does not come to its answer.
+#[derive(Drop)]
+pub enum Stop {
+    // It is refused, and the journal goes on.
+    Refused(Refused),
+    // The journal cannot go on.
+    Failed(Failure),
+}
+
+impl From<Refusal> for Stop {
+    fn from(refusal: Refusal) -> Stop {
+        Stop::Refused(Refused::Call(refusal))
+    }
+}
+
+impl From<TableFault> for Stop {
+    fn from(fault: TableFault) -> Stop {
+        Stop::Refused(Refused::Sheet(fault))
+    }
+}
+
+impl From<Failure> for Stop {
+    fn from(failure: Failure) -> Stop {
+        Stop::Failed(failure)
     }
 }

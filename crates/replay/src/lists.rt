@@ -1,6 +1,5 @@
 // The lists that calls are lent, and how they are printed.
 use crate::failure::Failure;
-use journal::push_hex;
 use std::alloc::Global;
 use std::fmt;
 
@@ -21,6 +20,7 @@ pub fn checked_length(length: u32) -> Result<usize, Failure> {
 // The walk list and the output, as the calls leave them.
 #[derive(Drop)]
 pub struct Lists {
+    heap: Global,
     pub walk: Vec<u32>,
     pub output: Vec<u8>,
 }
@@ -28,44 +28,50 @@ pub struct Lists {
 impl Lists {
     pub fn new(heap: Global) -> Lists {
         Lists {
+            heap,
             walk: Vec::new(heap),
             output: Vec::new(heap),
         }
     }
 
     // A walk list of so many numbers.
-    pub fn set_walk(&mut self, heap: Global, length: u32, fill: u32) -> Result<(), Failure> {
+    pub fn set_walk(&mut self, length: u32, fill: u32) -> Result<(), Failure> {
         let length = checked_length(length)?;
-        self.walk = vec![in heap; fill; length]?;
+        self.walk = vec![in self.heap; fill; length]?;
         Ok(())
     }
 
     // An output of so many bytes.
-    pub fn set_output(&mut self, heap: Global, length: u32, fill: u32) -> Result<(), Failure> {
+    pub fn set_output(&mut self, length: u32, fill: u32) -> Result<(), Failure> {
         let length = checked_length(length)?;
-        let Ok(fill) = u8::try_from(fill) else {
-            return Err(Failure::NotAByte);
-        };
-        self.output = vec![in heap; fill; length]?;
+        let fill = u8::try_from(fill).map_err(|_| Failure::NotAByte)?;
+        self.output = vec![in self.heap; fill; length]?;
         Ok(())
     }
 
     // The lists that a new table begins with.
-    pub fn begin(&mut self, heap: Global, capacity: u16) -> Result<(), Failure> {
-        self.set_walk(heap, u32::from(capacity), 0)?;
-        self.set_output(heap, LONGEST_SHEET, 0)
+    pub fn begin(&mut self, capacity: u16) -> Result<(), Failure> {
+        self.set_walk(u32::from(capacity), 0)?;
+        self.set_output(LONGEST_SHEET, 0)
     }
 }
 
-// Prints a word and the bytes in hex, as one line.
-pub fn print_hex(rt: &HostRuntime, word: &str, bytes: &[u8]) -> Result<(), Failure> {
-    let mut line = Vec::new(rt.alloc());
-    line.extend_from_slice(word.as_bytes())?;
-    line.push(b' ')?;
-    push_hex(&mut line, bytes)?;
-    line.push(b'\n')?;
-    rt.write_all(&line)?;
-    Ok(())
+// Bytes in hex, and `-` where there are none.
+#[derive(Drop)]
+pub struct Hex<'a> {
+    pub bytes: &'a [u8],
+}
+
+impl fmt::Display for Hex<'_> {
+    fn fmt<W: fmt::Write>(&self, f: &mut fmt::Formatter<W>) -> fmt::Result {
+        if self.bytes.is_empty() {
+            return f.write_str("-");
+        }
+        for byte in self.bytes {
+            write!(f, "{byte:02x}")?;
+        }
+        Ok(())
+    }
 }
 
 // A list in runs of equal numbers, each after a space: ` 7*0 3*5`.
@@ -76,19 +82,11 @@ pub struct Runs<'a> {
 
 impl fmt::Display for Runs<'_> {
     fn fmt<W: fmt::Write>(&self, f: &mut fmt::Formatter<W>) -> fmt::Result {
-        let mut run: Option<(u32, u32)> = None;
-        for number in self.list {
-            run = match run {
-                Some((count, value)) if value == *number => Some((count.saturating_add(1), value)),
-                Some((count, value)) => {
-                    write!(f, " {count}*{value}")?;
-                    Some((1, *number))
-                }
-                None => Some((1, *number)),
-            };
-        }
-        if let Some((count, value)) = run {
-            write!(f, " {count}*{value}")?;
+        for run in self.list.chunk_by(|a, b| a == b) {
+            if let [value, ..] = run {
+                let count = run.len();
+                write!(f, " {count}*{value}")?;
+            }
         }
         Ok(())
     }

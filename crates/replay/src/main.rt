@@ -4,11 +4,13 @@
 mod failure;
 mod lane;
 mod lists;
+mod order;
 mod reader;
+mod refused;
 mod session;
-mod setup;
+mod table;
 
-use failure::Failure;
+use failure::{Failure, report};
 use std::io::Read;
 use std::process::ExitCode;
 use std::{env, fs, io};
@@ -42,14 +44,10 @@ fn standard_input(rt: &HostRuntime) -> io::Result<Vec<u8>> {
 
 // Carries out what was read; where it cannot go on it says why on standard error.
 fn replay(rt: &HostRuntime, read: io::Result<Vec<u8>>) -> Result<(), Failure> {
-    let bytes = match read {
-        Ok(bytes) => bytes,
-        Err(error) => {
-            eprintln!(rt; "journal:0: unreadable: {error}")?;
-            return Err(Failure::Unreadable);
-        }
-    };
-    session::run(rt, &bytes)
+    match read {
+        Ok(journal) => session::run(rt, &journal),
+        Err(error) => report(rt, 0, Failure::Unreadable(error)),
+    }
 }
 
 // What the words after the program's name ask for.
@@ -58,13 +56,8 @@ fn start(rt: &HostRuntime) -> Result<(), Failure> {
     let _program = args.next();
     match args.next() {
         None => replay(rt, standard_input(rt)),
-        Some(word) => {
-            if word.as_str() == "--help" {
-                rt.println(HELP)?;
-                return Ok(());
-            }
-            replay(rt, fs::read(rt, word.as_str()))
-        }
+        Some(word) if word.as_str() == "--help" => Ok(rt.println(HELP)?),
+        Some(word) => replay(rt, fs::read(rt, word.as_str())),
     }
 }
 

@@ -8,3 +8,4 @@ pub mod Counting
 pub mod Looking
 pub mod Sweeping
 pub mod Reading
+pub mod Lawfulness

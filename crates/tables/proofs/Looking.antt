@@ -20,15 +20,11 @@ use Rattle.building.specs.Work.{model}
 use Rattle.building.proofs.Seeing.{seen_live, stands_seen}
 use Rattle.tables.specs.Models.{asked, answered}
 use Rattle.tables.proofs.Lending.{seen_wiped, too_short, long_enough}
-use Rattle.tables.proofs.Refusing.{refused_step, dead_free}
+use Rattle.tables.proofs.Refusing.{refused_as, dead_free}
 
 module _ (K : Kind) (L : Plan) (f : Entries) (p : Phase) (t : Places) (h : ℕ) (walk left : List ℕ) where
   abbrev m : Model
   m = model L f p t
-
-  -- Refused by the name of a refusal.
-  by_name : (q : Asked) (output : List ℕ) (e e' : Refusal) → e ≡ e' → Step K L m q (answered (Err e') left output) m → Step K L m q (answered (Err e) left output) m
-  by_name q output e e' is step = subst (λ x. Step K L m q (answered (Err x) left output) m) (sym is) step
 
   pub sized_step : (r : Result ℕ Refusal) → Sound K L m → left ≡ wiped t.capacity walk → Sized t h walk r
       → Step K L m (asked (look (size h)) walk []) (answered r left []) m
@@ -47,12 +43,10 @@ module _ (K : Kind) (L : Plan) (f : Entries) (p : Phase) (t : Places) (h : ℕ) 
         });
       }
   sized_step (Err e) sound list (inl dead) =
-      by_name (asked (look (size h)) walk []) [] e NotLive dead.0
-      (refused_step K L m (asked (look (size h)) walk []) NotLive left tt refl (seen_wiped L f p t walk left list) (inl (is_due (dead_free L f p t h dead.1))) (λ n. omega arith))
+      refused_as K L m (asked (look (size h)) walk []) e NotLive dead.0 left tt refl (seen_wiped L f p t walk left list) (inl (is_due (dead_free L f p t h dead.1))) (λ n. omega arith)
   sized_step (Err e) sound list (inr short) =
-      by_name (asked (look (size h)) walk []) [] e WalkTooShort short.0
-      (refused_step K L m (asked (look (size h)) walk []) WalkTooShort left tt refl (seen_wiped L f p t walk left list)
-      (inr (passes (seen_live L f p t h short.1), inl (is_due (too_short L f p t walk short.2)))) (λ n. omega arith))
+      refused_as K L m (asked (look (size h)) walk []) e WalkTooShort short.0 left tt refl (seen_wiped L f p t walk left list)
+      (inr (passes (seen_live L f p t h short.1), inl (is_due (too_short L f p t walk short.2)))) (λ n. omega arith)
 
   module _ (output : List ℕ) (sound : Sound K L m) (list : left ≡ wiped t.capacity walk) where
     abbrev q : Asked
@@ -60,23 +54,21 @@ module _ (K : Kind) (L : Plan) (f : Entries) (p : Phase) (t : Places) (h : ℕ) 
 
     unwritten_step : (e : Refusal) → Unwritten K L t h walk output e → Step K L m q (answered (Err e) left output) m
     unwritten_step e (inl dead) =
-        by_name q output e NotLive dead.0
-        (refused_step K L m q NotLive left tt tt (seen_wiped L f p t walk left list) (inl (is_due (dead_free L f p t h dead.1))) (λ n. omega arith))
+        refused_as K L m q e NotLive dead.0 left tt tt (seen_wiped L f p t walk left list) (inl (is_due (dead_free L f p t h dead.1))) (λ n. omega arith)
     unwritten_step e (inr (inl short)) =
-        by_name q output e WalkTooShort short.0
-        (refused_step K L m q WalkTooShort left tt tt (seen_wiped L f p t walk left list) (inr (passes (seen_live L f p t h short.1), inl (is_due (too_short L f p t walk short.2)))) (λ n. omega arith))
+        refused_as K L m q e WalkTooShort short.0 left tt tt (seen_wiped L f p t walk left list)
+        (inr (passes (seen_live L f p t h short.1), inl (is_due (too_short L f p t walk short.2)))) (λ n. omega arith)
     unwritten_step e (inr (inr small)) =
         let live : Live m h = seen_live L f p t h small.1 in
         let g = sound.good h live in
-        by_name q output e OutputTooShort small.0
-        (refused_step K L m q OutputTooShort left tt tt (seen_wiped L f p t walk left list)
+        refused_as K L m q e OutputTooShort small.0 left tt tt (seen_wiped L f p t walk left list)
         (inr (
           passes live,
           inr (
             passes (long_enough L f p t walk small.2),
             inl (is_due (g.0, g.2, small.3 g.0 (stands_seen L f p t g.0 h g.2) g.1)),
           ),
-        )) (λ n. omega arith))
+        )) (λ n. omega arith)
 
     pub written_step : (after : List ℕ) (r : Result ℕ Refusal) → Written K L t h walk output after r → Step K L m q (answered r left after) m
     written_step after (Ok x) done =

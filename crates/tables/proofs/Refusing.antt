@@ -1,5 +1,5 @@
 -- A call that is refused takes its step: all is as before. Assumes nothing.
-use Rattle.std.proofs.Common.{◌≡◌, ℕ, List, Err, refl, ◌∙◌, inr, ⊎_elim}
+use Rattle.std.proofs.Common.{◌≡◌, ℕ, List, Err, sym, refl, ◌∙◌, subst, inr, ⊎_elim}
 use Rattle.std.proofs.lemmas.Bool.{cases_Bool}
 use Rattle.diagrams.specs.Kinds.{Kind}
 use Rattle.diagrams.specs.Layouts.{Layout as Plan}
@@ -39,6 +39,13 @@ refused_step K L m q e walk takes lent left first other = record {
     entries = λ _ k. refl;
   });
 }
+
+-- The same of a refusal that is that one.
+pub refused_as : (K : Kind) (L : Plan) (m : Model) (q : Asked) (told e : Refusal) → told ≡ e → (walk : List ℕ) → Takes q.call m.phase → Lent q.call q.walk q.output
+    → walk ≡ wiped (walk_room m q.call) q.walk → First (faults K L m q q.call) (number e) 0 → ¬ (number e ≡ 25)
+    → Step K L m q (answered (Err told) walk q.output) m
+refused_as K L m q told e is walk takes lent left first other =
+    subst (λ x. Step K L m q (answered (Err x) walk q.output) m) (sym is) (refused_step K L m q e walk takes lent left first other)
 
 -- A place that is not in use is free.
 pub dead_free : (L : Plan) (f : Entries) (p : Phase) (t : Places) (h : ℕ) → (Used t h → ⊥) → content (model L f p t) h ≡ free

@@ -111,14 +111,14 @@ module _ {V S : Type 0} (K : Kind) (entries : S → Entries) (start : Open V S) 
   pub settled_build : Lawful K plan → Sound K plan before → Means before b task → Fit K plan 0 task
       → (((n p : ℕ) → ¬ Full K plan before (plain (build b)) b n p) → Faultless (faults K plan before (plain (build b)) (build b)))
       → (Full K plan before (plain (build b)) b 25 0 → First (faults K plan before (plain (build b)) (build b)) 25 0)
-      → (u saved : Places) (s : S) (after : Open V S) (r : Option ℕ) (answer : Result ℕ Refusal) → saved ≡ start.places → Came u s r
-      → Settled entries (filled u s) after saved r answer → Step K plan before (plain (build b)) (gave answer) (open_model entries after)
-  settled_build ok sound means fit accept refuse u saved s after (Some h) answer same came end =
+      → (u : Places) (s : S) (after : Open V S) (r : Option ℕ) (answer : Result ℕ Refusal) → Came u s r
+      → Settled entries (filled u s) after start.places r answer → Step K plan before (plain (build b)) (gave answer) (open_model entries after)
+  settled_build ok sound means fit accept refuse u s after (Some h) answer came end =
       let step = given_step K plan b (entries start.store) start.places task ok sound means fit (entries s) u h came accept in
       subst (λ r. Step K plan before (plain (build b)) (gave r) (open_model entries after)) (sym end.told)
       (subst (λ t. Step K plan before (plain (build b)) (gave (Ok h)) (open_model entries t)) (sym end.table) step)
-  settled_build ok sound means fit accept refuse u saved s after None answer same came end =
+  settled_build ok sound means fit accept refuse u s after None answer came end =
       let step = full_step K plan b (entries start.store) start.places (entries after.store) end.store (refuse (refl, refl, (task, means, came))) in
       subst (λ r. Step K plan before (plain (build b)) (gave r) (open_model entries after)) (sym end.told)
       (subst (λ y. Step K plan before (plain (build b)) (gave (Err TableFull)) (model (view y) (entries after.store) opened after.places)) (sym end.layout)
-      (subst (λ t. Step K plan before (plain (build b)) (gave (Err TableFull)) (model plan (entries after.store) opened t)) (sym (end.places ∙ same)) step))
+      (subst (λ t. Step K plan before (plain (build b)) (gave (Err TableFull)) (model plan (entries after.store) opened t)) (sym end.places) step))

@@ -29,7 +29,7 @@ use Rattle.tables.specs.declared.open.Open.{Open}
 use Rattle.tables.specs.Models.{open_model, asked, answered}
 use Rattle.tables.specs.Sweeping.{Cleaned}
 use Rattle.tables.proofs.Lending.{seen_wiped, too_short, long_enough}
-use Rattle.tables.proofs.Refusing.{refused_step}
+use Rattle.tables.proofs.Refusing.{refused_as}
 
 module _ (K : Kind) (L : Plan) (f : Entries) (t : Table) where
   abbrev m : Model
@@ -113,9 +113,8 @@ module _ (K : Kind) (L : Plan) (f : Entries) (t : Table) where
     sweep_short : (u : Table) (e : Refusal) → Sweeping t u walk (Err e) → Step K L m (asked sweep walk []) (answered (Err e) left []) (model L f opened u)
     sweep_short u e short =
         subst (λ v. Step K L m (asked sweep walk []) (answered (Err e) left []) (model L f opened v)) (sym short.2)
-        (subst (λ e'. Step K L m (asked sweep walk []) (answered (Err e') left []) m) (sym short.0)
-        (refused_step K L m (asked sweep walk []) WalkTooShort left refl refl (seen_wiped L f opened t walk left list)
-        (inl (is_due (too_short L f opened t walk short.1))) (λ n. omega arith)))
+        (refused_as K L m (asked sweep walk []) e WalkTooShort short.0 left refl refl (seen_wiped L f opened t walk left list)
+        (inl (is_due (too_short L f opened t walk short.1))) (λ n. omega arith))
 
 -- The call of the code.
 module _ {V S : Type 0} (K : Kind) (entries : S → Entries) (before after : Open V S) (walk left : List ℕ) where

@@ -1,10 +1,13 @@
 -- How a building call ends on an open table. Assumes nothing.
 use Rattle.std.specs.Prelude.{◌≡◌, ℕ, Some, None, Ok, Err, Option, Result}
+use Rattle.diagrams.specs.Kinds.{Kind}
 use Rattle.histories.specs.Stores.{Entries, Forgotten}
+use Rattle.histories.specs.Requests.{Call}
 use Rattle.refusals.specs.declared.refusal.Refusal.{Refusal}
 use Rattle.refusals.specs.declared.refusal.Refusal.TheVariants.{TableFull}
 use Rattle.places.specs.declared.places.Places.{Places}
 use Rattle.tables.specs.declared.open.Open.{Open}
+use Rattle.tables.specs.Models.{OpenStep}
 
 module _ {K S : Type 0} (entries : S → Entries) (before after : Open K S) where
   -- The handle is given, and the table is as building left it.
@@ -23,3 +26,11 @@ module _ {K S : Type 0} (entries : S → Entries) (before after : Open K S) wher
   abbrev pub Settled : Places → Option ℕ → Result ℕ Refusal → Type 0
   Settled saved None r = Full saved r
   Settled saved (Some h) r = Given h r
+
+module _ {K S : Type 0} (kind : Kind) (entries : S → Entries) (before after : Open K S) (call : Call) where
+  -- How far building came. A refused call has taken its step. What was brought, or that there was no room, is a step as soon as the table is settled,
+  -- whatever is answered.
+  abbrev pub Attempted : Result (Option ℕ) Refusal → Type 0
+  Attempted (Err e) = OpenStep kind entries before call (Err e) after
+  Attempted (Ok brought) =
+      (settled : Open K S) (r : Result ℕ Refusal) → Settled entries after settled before.places brought r → OpenStep kind entries before call r settled

@@ -3,6 +3,7 @@
 #![tactic(auto)]
 
 mod call;
+mod checks;
 pub mod open;
 pub mod released;
 

@@ -4,6 +4,7 @@ use places::places::Places;
 use std::marker::PhantomData;
 use stores::Store;
 
+mod back;
 mod build;
 mod keep;
 mod look;

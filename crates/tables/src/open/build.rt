@@ -5,10 +5,11 @@ ghost use Rattle.histories.specs.Requests.{Call.build as Building};
 ghost use Rattle.building.specs.Operations.{meant as operated};
 ghost use Rattle.places.specs.Tables.{kept};
 ghost use Rattle.tables.specs.Models.{OpenStep, meant};
-ghost use Rattle.tables.specs.Settling.{Settled};
+ghost use Rattle.tables.specs.Settling.{Attempted, Settled};
 
 use super::Open;
 use crate::call::Build;
+use crate::checks::{known_constant, known_mark, live};
 use building::combine::combine;
 use building::operation::Operation;
 use building::restrict::restrict;
@@ -61,9 +62,18 @@ impl<K: Value, S: Store> Open<K, S> {
         self.build(Build::Restrict(handle, mark, constant))
     }
 
-    // Carries out a building call.
+    // Carries out a building call: what it brings is settled, whichever call it is.
     fn build(&mut self, call: Build) -> Result<u32, Refusal>
         ensures { OpenStep K.Value.kind S.Store.entries self.old (Building (meant call)) result self.new }
+    {
+        let saved = self.places.save();
+        let answer = self.attempt(call)?;
+        self.settle(&saved, answer)
+    }
+
+    // The handle that a building call brings, if there is room for it; a refused call leaves the table as it is.
+    fn attempt(&mut self, call: Build) -> Result<Option<u16>, Refusal>
+        ensures { Attempted K.Value.kind S.Store.entries self.old self.new (Building (meant call)) result }
     {
         match call {
             Build::Constant(word) => self.build_constant(word),
@@ -76,86 +86,74 @@ impl<K: Value, S: Store> Open<K, S> {
     }
 
     // A word that is no value is refused first.
-    fn build_constant(&mut self, word: u32) -> Result<u32, Refusal>
-        ensures { OpenStep K.Value.kind S.Store.entries self.old (Building (Constant word)) result self.new }
+    fn build_constant(&mut self, word: u32) -> Result<Option<u16>, Refusal>
+        ensures { Attempted K.Value.kind S.Store.entries self.old self.new (Building (Constant word)) result }
     {
         if !K::is_value(word) {
             return Err(Refusal::NotAValue);
         }
-        let saved = self.places.save();
-        let answer = simple::constant(&mut self.places, word);
-        self.settle(&saved, answer)
+        Ok(simple::constant(&mut self.places, word))
     }
 
     // A mark that the layout lacks is refused first.
-    fn build_mark(&mut self, index: u32) -> Result<u32, Refusal>
-        ensures { OpenStep K.Value.kind S.Store.entries self.old (Building (Mark index)) result self.new }
+    fn build_mark(&mut self, index: u32) -> Result<Option<u16>, Refusal>
+        ensures { Attempted K.Value.kind S.Store.entries self.old self.new (Building (Mark index)) result }
     {
-        if index >= u32::from(self.layout.size()) {
-            return Err(Refusal::NoSuchMark);
-        }
-        let saved = self.places.save();
-        let answer = simple::mark::<K>(&mut self.places, &self.layout, index as u8);
-        self.settle(&saved, answer)
+        let mark = known_mark(&self.layout, index)?;
+        Ok(simple::mark::<K>(&mut self.places, &self.layout, mark))
     }
 
     // The left handle is looked at before the right.
-    fn build_combined(&mut self, operation: Operation, a: u32, b: u32) -> Result<u32, Refusal>
-        ensures { OpenStep K.Value.kind S.Store.entries self.old (Building (Combine (operated operation) a b)) result self.new }
+    fn build_combined(
+        &mut self,
+        operation: Operation,
+        a: u32,
+        b: u32,
+    ) -> Result<Option<u16>, Refusal>
+        ensures { Attempted K.Value.kind S.Store.entries self.old self.new (Building (Combine (operated operation) a b)) result }
     {
-        let Some(left) = self.places.live(a) else {
-            return Err(Refusal::NotLive);
-        };
-        let Some(right) = self.places.live(b) else {
-            return Err(Refusal::NotLive);
-        };
-        let saved = self.places.save();
-        let answer = combine::<K, S>(
+        let left = live(&self.places, a)?;
+        let right = live(&self.places, b)?;
+        Ok(combine::<K, S>(
             &mut self.places,
             &mut self.store,
             &self.layout,
             operation,
             left,
             right,
-        );
-        self.settle(&saved, answer)
+        ))
     }
 
     // The mark is looked at first, then the handle, then the constant.
-    fn build_restricted(&mut self, handle: u32, mark: u32, constant: u32) -> Result<u32, Refusal>
-        ensures { OpenStep K.Value.kind S.Store.entries self.old (Building (Restrict handle mark constant)) result self.new }
+    fn build_restricted(
+        &mut self,
+        handle: u32,
+        index: u32,
+        constant: u32,
+    ) -> Result<Option<u16>, Refusal>
+        ensures { Attempted K.Value.kind S.Store.entries self.old self.new (Building (Restrict handle index constant)) result }
     {
-        if mark >= u32::from(self.layout.size()) {
-            return Err(Refusal::NoSuchMark);
-        }
-        let Some(place) = self.places.live(handle) else {
-            return Err(Refusal::NotLive);
-        };
-        if constant > 1 {
-            return Err(Refusal::NotAConstant);
-        }
-        let saved = self.places.save();
-        let answer = restrict::<K, S>(
+        let mark = known_mark(&self.layout, index)?;
+        let place = live(&self.places, handle)?;
+        let one = known_constant(constant)?;
+        Ok(restrict::<K, S>(
             &mut self.places,
             &mut self.store,
             &self.layout,
             place,
-            mark as u8,
-            constant == 1,
-        );
-        self.settle(&saved, answer)
+            mark,
+            one,
+        ))
     }
 
-    // The handle that building brought. Where there was no room the places come back as they were, and the store forgets, since an entry might name a
-    // place that was filled and emptied again.
+    // The handle that building brought, or that there was no room for it.
     fn settle(&mut self, saved: &Saved, answer: Option<u16>) -> Result<u32, Refusal>
         ensures { Settled S.Store.entries self.old self.new (kept saved.now) answer result }
     {
         match answer {
             Some(handle) => Ok(u32::from(handle)),
             None => {
-                self.places.undo(saved);
-                self.store.forget();
+                self.come_back(saved);
                 Err(Refusal::TableFull)
             }
         }

@@ -5,6 +5,7 @@ ghost use Rattle.tables.specs.Models.{OpenStep, OpenTakes, asked, answered};
 ghost use Rattle.tables.specs.Sweeping.{Cleaned};
 
 use super::Open;
+use crate::checks::live;
 use kinds::Value;
 use refusals::Refusal;
 use stores::Store;
@@ -39,26 +40,18 @@ impl<K: Value, S: Store> Open<K, S> {
     fn hold_live(&mut self, handle: u32) -> Result<u32, Refusal>
         ensures { OpenStep K.Value.kind S.Store.entries self.old (Hold handle) result self.new }
     {
-        let Some(place) = self.places.live(handle) else {
-            return Err(Refusal::NotLive);
-        };
-        match self.places.hold(place) {
-            Some(count) => Ok(u32::from(count)),
-            None => Err(Refusal::HoldLimit),
-        }
+        let place = live(&self.places, handle)?;
+        let count = self.places.hold(place).ok_or(Refusal::HoldLimit)?;
+        Ok(u32::from(count))
     }
 
     // A handle that is not live is refused first.
     fn let_go_live(&mut self, handle: u32) -> Result<u32, Refusal>
         ensures { OpenStep K.Value.kind S.Store.entries self.old (LetGo handle) result self.new }
     {
-        let Some(place) = self.places.live(handle) else {
-            return Err(Refusal::NotLive);
-        };
-        match self.places.let_go(place) {
-            Some(count) => Ok(u32::from(count)),
-            None => Err(Refusal::NotHeld),
-        }
+        let place = live(&self.places, handle)?;
+        let count = self.places.let_go(place).ok_or(Refusal::NotHeld)?;
+        Ok(u32::from(count))
     }
 
     // A sweep of the places, and of the store with them.

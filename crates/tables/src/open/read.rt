@@ -44,15 +44,12 @@ impl<K: Value, S: Store> Open<K, S> {
         }
     }
 
-    // Where the table was full its places come back as they were, and the store forgets, since an entry might name a place that was filled and emptied again.
+    // Where the table was full it comes back as it was.
     fn turn_back(&mut self, saved: &Saved, fault: TableFault)
         ensures { TurnedBack S.Store.entries self.old self.new (kept saved.now) fault }
     {
         match fault {
-            TableFault::Full { .. } => {
-                self.places.undo(saved);
-                self.store.forget();
-            }
+            TableFault::Full { .. } => self.come_back(saved),
             TableFault::Sheet(_) | TableFault::ShortList => {}
         }
     }

@@ -13,17 +13,11 @@ impl<K: Value, S: Store> Open<K, S> {
     pub fn release(self) -> Released<K, S>
         ensures { Kept K.Value.kind (open_model S.Store.entries self) (plain Release) (replies Done) (released_model S.Store.entries result) }
     {
-        let Open {
-            layout,
-            places,
-            store,
-            kind,
-        } = self;
         Released {
-            layout,
-            places,
-            store,
-            kind,
+            layout: self.layout,
+            places: self.places,
+            store: self.store,
+            kind: self.kind,
         }
     }
 }

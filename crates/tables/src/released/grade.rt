@@ -3,6 +3,7 @@ ghost use Rattle.histories.specs.Requests.{Call.look as Look, Look.grade as Grad
 ghost use Rattle.tables.specs.Models.{ReleasedStep};
 
 use super::Released;
+use crate::checks::live;
 use grading::grade;
 use kinds::Value;
 use refusals::Refusal;
@@ -20,9 +21,7 @@ impl<K: Value, S: Store> Released<K, S> {
     fn value_of(&self, handle: u32, fruit: u32) -> Result<u32, Refusal>
         ensures { ReleasedStep K.Value.kind S.Store.entries self.now (Look (Grade handle fruit)) result }
     {
-        let Some(place) = self.places.live(handle) else {
-            return Err(Refusal::NotLive);
-        };
+        let place = live(&self.places, handle)?;
         if !self.layout.is_fruit(fruit) {
             return Err(Refusal::NotAFruit);
         }

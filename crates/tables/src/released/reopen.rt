@@ -13,17 +13,11 @@ impl<K: Value, S: Store> Released<K, S> {
     pub fn reopen(self) -> Open<K, S>
         ensures { Kept K.Value.kind (released_model S.Store.entries self) (plain Reopen) (replies Done) (open_model S.Store.entries result) }
     {
-        let Released {
-            layout,
-            places,
-            store,
-            kind,
-        } = self;
         Open {
-            layout,
-            places,
-            store,
-            kind,
+            layout: self.layout,
+            places: self.places,
+            store: self.store,
+            kind: self.kind,
         }
     }
 }

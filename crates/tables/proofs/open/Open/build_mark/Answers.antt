@@ -1,11 +1,11 @@
-use Rattle.std.proofs.Common.{◌<◌, refl, inl, inr, arith}
-use Rattle.diagrams.specs.Diagrams.{Lawful}
+use Rattle.std.proofs.Common.{refl, subst, inl, inr, arith}
 use Rattle.diagrams.specs.Tasks
 use Rattle.histories.specs.Builds.{mark}
 use Rattle.histories.proofs.Faults.{passes}
 use Rattle.histories.proofs.Reachability.{keeps}
 use Rattle.layouts.specs.View.{view}
-use Rattle.layouts.proofs.Laying.{layout_valid}
+use Rattle.building.specs.Work.{Works}
+use Rattle.tables.proofs.Lawfulness.{lawful}
 use Rattle.tables.proofs.Settling.{short_came, settled_build}
 use Rattle.tables.proofs.open.Open.build_mark.Goals as goal
 
@@ -14,11 +14,12 @@ returns g c =
     let K = g.K.Value.kind in
     let start = c.args.self.now in
     let i = c.args.index in
-    let ok : Lawful K (view start.layout) = record { laws = g.K.Value.laws; valid = layout_valid start.layout } in
-    let inside : i < start.layout.size = omega arith in
-    keeps ok (λ sound.
-    settled_build K g.S.Store.entries start (mark i) (Tasks.mark i) ok sound refl (omega arith, inside)
-    (λ room. (passes (λ far. omega arith), (room, tt))) (λ full. inr (passes (λ far. omega arith), inl full))
-    c.mark-answer.new.places _ start.store c.settle.new.self c.mark-answer.result c.settle.result c.save-saved.ensures
-    (short_came K g.S.Store.entries start (mark i) (Tasks.mark i) ok sound refl (omega arith, inside) refl (λ k none. none) c.mark-answer.new.places c.mark-answer.result c.mark-answer.ensures)
-    c.settle.ensures)
+    let ok = lawful g.K.Value.laws start.layout in
+    let known = c.in_ok-mark.ensures in
+    let works = subst (λ n. Works K (view start.layout) (Tasks.mark n) start.places c.mark.new.places c.mark.result) known.0 c.mark.ensures in
+    λ settled r end. keeps ok (λ sound.
+    settled_build K g.S.Store.entries start (mark i) (Tasks.mark i) ok sound refl (omega arith, known.1)
+    (λ room. (passes (λ far. omega (arith, known.1)), (room, tt))) (λ full. inr (passes (λ far. omega (arith, known.1)), inl full))
+    c.mark.new.places start.store settled c.mark.result r
+    (short_came K g.S.Store.entries start (mark i) (Tasks.mark i) ok sound refl (omega arith, known.1) refl (λ k none. none) c.mark.new.places c.mark.result works)
+    end)

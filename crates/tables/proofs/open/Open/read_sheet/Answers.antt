@@ -1,10 +1,9 @@
 use Rattle.std.proofs.Common.{◌<◌, w8}
 use mir.Facts.{Fits-lt-pow}
 use Rattle.std.proofs.ByRecursion.{All-from_get_or}
-use Rattle.diagrams.specs.Diagrams.{Lawful}
 use Rattle.histories.proofs.Reachability.{keeps}
 use Rattle.layouts.specs.View.{view}
-use Rattle.layouts.proofs.Laying.{layout_valid}
+use Rattle.tables.proofs.Lawfulness.{lawful}
 use Rattle.tables.proofs.Reading.{took_step, reads_comes}
 use Rattle.tables.proofs.open.Open.read_sheet.Goals as goal
 
@@ -12,7 +11,7 @@ pub returns : goal.returns
 returns g c =
     let K = g.K.Value.kind in
     let start = c.args.self.now in
-    let ok : Lawful K (view start.layout) = record { laws = g.K.Value.laws; valid = layout_valid start.layout } in
+    let ok = lawful g.K.Value.laws start.layout in
     let bytes = All-from_get_or (λ b. b < 256) c.args.bytes.now 0 (λ i _. Fits-lt-pow {w = w8} (c.type_inv.bytes i)) in
     record {
       step = keeps ok (λ sound.
