@@ -61,9 +61,9 @@ digits_push (b ∷ bs) (suc i) lt =
     let more = rw add-one at (digits_push bs i (omega arith)) in rw add-one (ap (λ l. hex_digit (b / 16) ∷ hex_digit b ∷ l) more)
 
 -- a turn that writes a byte's two digits
-pub digits_more : (bs : List ℕ) (i h l : ℕ) (was out mid end : List ℕ) → i < length bs → out ≡ was ++ digits (take i bs) → mid ≡ out ++ (h ∷ []) → end ≡ mid ++ (l ∷ []) → h ≡ hex_digit (get_or bs i 0 / 16) → l ≡ hex_digit (get_or bs i 0) → end ≡ was ++ digits (take (i + 1) bs)
-digits_more bs i h l was out mid end lt a b c high low =
-    c ∙ ap (λ x. x ++ (l ∷ [])) (b ∙ ap (λ x. x ++ (h ∷ [])) a) ∙ append_assoc _ (h ∷ []) (l ∷ []) ∙ append_assoc was _ (h ∷ l ∷ []) ∙ ap (λ x. was ++ x) (sym (digits_push bs i lt ∙ sym (λ k. digits (take i bs) ++ (high k ∷ low k ∷ []))))
+pub digits_more : (bs : List ℕ) (i h l : ℕ) (was out end : List ℕ) → i < length bs → out ≡ was ++ digits (take i bs) → end ≡ out ++ (h ∷ l ∷ []) → h ≡ hex_digit (get_or bs i 0 / 16) → l ≡ hex_digit (get_or bs i 0) → end ≡ was ++ digits (take (i + 1) bs)
+digits_more bs i h l was out end lt a b high low =
+    b ∙ ap (λ x. x ++ (h ∷ l ∷ [])) a ∙ append_assoc was _ (h ∷ l ∷ []) ∙ ap (λ x. was ++ x) (sym (digits_push bs i lt ∙ sym (λ k. digits (take i bs) ++ (high k ∷ low k ∷ []))))
 
 -- the digits of all the bytes are their text
 pub digits_all : (bs : List ℕ) (i : ℕ) → length bs ≤ i → 0 < length bs → digits (take i bs) ≡ hex_text bs

@@ -30,6 +30,7 @@ impl<T: Drop> From<AllocFailed<T>> for Unread {
 }
 
 // The digit, in small letters, of the low four bits.
+// `char::from_digit` is no plainer: it gives an Option of a char, and this cannot fail.
 pub fn hex_digit(n: u8) -> u8
     ensures { result ≡ hex_digit n }
 {
@@ -98,6 +99,7 @@ fn decode(heap: Global, digits: &[u8]) -> Result<Vec<u8>, Unread>
 }
 
 // Adds the hex text of the bytes.
+#[tactic(auto, using(crate::proofs::Pairs::digits_all))]
 pub fn push_hex(out: &mut Vec<u8>, bytes: &[u8]) -> Result<(), AllocError>
     ensures { OnOk result (out.new.items ≡ out.old.items ++ hex_text bytes.now) }
 {
@@ -106,8 +108,7 @@ pub fn push_hex(out: &mut Vec<u8>, bytes: &[u8]) -> Result<(), AllocError>
         return Ok(());
     }
     for byte in bytes {
-        out.push(hex_digit(*byte / 16))?;
-        out.push(hex_digit(*byte))?;
+        out.extend_from_slice(&[hex_digit(*byte / 16), hex_digit(*byte)])?;
     }
     Ok(())
 }

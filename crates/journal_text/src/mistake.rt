@@ -1,6 +1,8 @@
 // What can be wrong with a line.
-ghost use Rattle.std.specs.Prelude.{◌≡◌};
+ghost use Rattle.std.specs.Prelude.{◌≡◌, Some};
 ghost use Rattle.journal_text.specs.Mistakes.{wording};
+
+use std::fmt;
 
 #[derive(Clone, Copy)]
 pub enum Mistake {
@@ -47,5 +49,13 @@ impl Mistake {
                 "not hex: write digits 0-9 and a-f, two for each byte, or - for no bytes",
             Mistake::NoHandle => "the command answers no handle: write it without NAME =",
         }
+    }
+}
+
+impl fmt::Display for Mistake {
+    ghost output = { λ mistake. Some (wording mistake) };
+
+    fn fmt<W: fmt::Write>(&self, f: &mut fmt::Formatter<W>) -> fmt::Result {
+        f.write_str(self.words())
     }
 }

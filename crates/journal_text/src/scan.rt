@@ -5,7 +5,7 @@ ghost use Rattle.journal_text.specs.Scans.{within, Shows, Lines};
 
 use std::str::from_utf8;
 
-// A set of bytes.
+// A set of bytes. A value and no closure, since contracts name it, as `within Digit` in `decimal`.
 #[derive(Clone, Copy)]
 pub enum Class {
     // Space, tab and carriage return separate words, so lines may end as on any system.

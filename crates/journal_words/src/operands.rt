@@ -159,30 +159,15 @@ pub fn name(word: &[u8]) -> Option<&str>
 fn is_name(word: &[u8]) -> bool
     ensures { result ≡ is_name word.now }
 {
-    match word {
-        [first, ..] => first.is_ascii_lowercase() && is_all(word, Class::NameByte),
-        [] => false,
-    }
+    matches!(word, [b'a'..=b'z', ..]) && is_all(word, Class::NameByte)
 }
 
 // The handle that a word writes.
 fn operand(word: &[u8]) -> Result<Operand<'_>, Mistake>
     ensures { answered operand_part result ≡ handle word.now }
 {
-    if begins_with_digit(word) {
+    if let [b'0'..=b'9', ..] = word {
         return Ok(Operand::Number(number(word)?));
     }
-    match name(word) {
-        Some(name) => Ok(Operand::Name(name)),
-        None => Err(Mistake::BadHandle),
-    }
-}
-
-fn begins_with_digit(word: &[u8]) -> bool
-    ensures { result ≡ requests.begins_with_digit word.now }
-{
-    match word {
-        [first, ..] => first.is_ascii_digit(),
-        [] => false,
-    }
+    name(word).map(Operand::Name).ok_or(Mistake::BadHandle)
 }
