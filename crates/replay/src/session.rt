@@ -6,7 +6,7 @@ use crate::reader::Reader;
 use crate::setup::{Next, Order, print_refusal, set_up};
 use journal::{Command, KindName, Line, StoreName, unhex};
 use kinds::{Points, Value, YesNo};
-use refusals::{Layer, Refusal, TableFault};
+use refusals::{Refusal, TableFault};
 use stores::last::Last;
 use stores::lent::Lent;
 use stores::own::Own;
@@ -70,18 +70,10 @@ fn print_sheet(
 fn print_fault(rt: &HostRuntime, fault: TableFault) -> Result<(), Failure> {
     let refusal = fault.refusal();
     let number = refusal.number();
-    let layer = layer_word(refusal.layer());
+    let layer = refusal.layer();
     let place = fault.place();
     println!(rt; "refused {number} {layer} {place}: {refusal}")?;
     Ok(())
-}
-
-fn layer_word(layer: Layer) -> &'static str {
-    match layer {
-        Layer::Bytes => "bytes",
-        Layer::Sheet => "sheet",
-        Layer::Table => "table",
-    }
 }
 
 // Reads a sheet, prints its handle or why it was refused, and binds its name.
