@@ -2,7 +2,7 @@
 use Rattle.std.proofs.Common.{◌≡◌, ℕ, ◌+◌, ◌-◌, ◌<◌, List, [], ◌∷◌, ◌++◌, length, get_or, take, drop, None, sym, refl, ap, ◌∙◌, subst, inl, inr, ⊎_elim, arith}
 use mathlib.Core.List.Memᴰ
 use mathlib.Core.List.{Memᴰ}
-use Rattle.std.specs.List.{AllByRecursion}
+use Rattle.diagrams.proofs.Listed.{all_mem}
 use Rattle.std.proofs.lemmas.List.{take_more, take-append-drop}
 use Rattle.diagrams.specs.Kinds.{Kind}
 use Rattle.diagrams.specs.Layouts.{Layout}
@@ -23,12 +23,8 @@ use Rattle.building.specs.Work.{model}
 use Rattle.building.proofs.Seeing.{seen_live, seen_stands, stands_seen}
 use Rattle.building.proofs.Toward.{Toward, toward_gains, toward_full}
 use Rattle.reading.specs.Placing.{Filled, Crowded}
-use Rattle.reading.proofs.Placing.{wanted, Placed, stand_nth, stand_member, wanted_told, wanted_more, placed_more}
-
--- Diagrams that all have P.
-pub all_member : (P : Diagram → Type 0) (ds : List Diagram) → AllByRecursion P ds → (d : Diagram) → Memᴰ d ds → P d
-all_member P [] all d q = absurd (Memᴰ.not-nil q)
-all_member P (e ∷ es) all d q = elim (Memᴰ.cases_cons q) [ inl r ↦ subst P (sym r) all.0 | inr r ↦ all_member P es all.1 d r ]
+use Rattle.walks.proofs.Standing.{stand_nth}
+use Rattle.reading.proofs.Placing.{wanted, Placed, stand_member, wanted_told, wanted_more, placed_more}
 
 module _ (K : Kind) (L : Layout) (f : Entries) (p : Phase) (t u : Places) (ds : List Diagram) (hs : List ℕ) (placed : Placed t u ds hs)
     (goods : (d : Diagram) → Memᴰ d ds → Good K L 0 d) (sound : Sound K L (model L f p t)) where
@@ -68,7 +64,7 @@ module _ (K : Kind) (L : Layout) (f : Entries) (p : Phase) (t u : Places) (ds : 
 -- The records of a sheet, each after those before it; the first i have their places.
 module _ (K : Kind) (L : Layout) (seen : List Diagram) (follow : Follow K L [] seen) (t u : Places) (hs : List ℕ) where
   pub good_member : (d : Diagram) → Memᴰ d seen → Good K L 0 d
-  good_member = all_member (Good K L 0) seen (follow_good K L [] seen follow)
+  good_member d = all_mem (Good K L 0) seen (follow_good K L [] seen follow)
 
   take_member : (i : ℕ) (d : Diagram) → Memᴰ d (take i seen) → Memᴰ d seen
   take_member i d q = subst (Memᴰ d) (take-append-drop i seen) (Memᴰ.append_left (drop i seen) q)

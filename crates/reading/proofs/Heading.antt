@@ -1,7 +1,7 @@
 -- The head that a table expects of a sheet. Assumes nothing.
 use Rattle.std.proofs.Common.{◌≡◌, ℕ, zero, suc, ◌+◌, ◌-◌, ◌*◌, ◌<◌, ◌≤◌, List, ◌∷◌, length, get_or, take, drop, replicate, sym, refl, ap, ◌∙◌, subst, ap₂, zero-add, arith}
 use lib.ListN.{length-replicate}
-use lib.Seq.{sets, sets-eq}
+use lib.Seq.{sets}
 use Rattle.std.proofs.lemmas.List.{length-append, take_at, take_rest, drop_at}
 use Rattle.diagrams.specs.Kinds.{Kind}
 use Rattle.diagrams.specs.Layouts.{Layout, type_code}
@@ -9,6 +9,7 @@ use Rattle.diagrams.specs.Diagrams.{Lawful}
 use Rattle.diagrams.specs.Sheets.{record_of, by_level}
 use Rattle.diagrams.proofs.Whole.{length_by_level}
 use Rattle.writing.specs.Heads.{head_body}
+use Rattle.writing.proofs.Measuring.{sets_front}
 use Rattle.sheets.specs.Judged.{Types}
 use Rattle.sheets.specs.Scanned.{Suits}
 
@@ -19,7 +20,7 @@ by_level_at (suc k) l (suc i) f inside = by_level_at k (suc l) i f (omega arith)
 
 -- A run that is put at the front stands there.
 put_first : (out xs : List ℕ) → length xs ≤ length out → take (length xs) (sets out 0 xs) ≡ xs
-put_first out xs room = ap (take (length xs)) (sets-eq xs out 0 (omega arith)) ∙ take_at xs (drop (0 + length xs) out) (length xs) refl
+put_first out xs room = ap (take (length xs)) (sets_front out xs room) ∙ take_at xs (drop (length xs) out) (length xs) refl
 
 module _ (K : Kind) (L : Layout) where
   abbrev marks : List ℕ

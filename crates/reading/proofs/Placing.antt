@@ -1,12 +1,12 @@
 -- Records get their places one after the other. Assumes nothing.
-use Rattle.std.proofs.Common.{◌≡◌, ℕ, zero, suc, ◌<◌, ◌≤◌, ◌⊎◌, List, [], ◌∷◌, ◌++◌, length, get_or, sym, refl, ap, ◌∙◌, subst, ap₂, inl, inr, ⊎_elim, arith}
+use Rattle.std.proofs.Common.{◌≡◌, ℕ, ◌≤◌, ◌⊎◌, List, [], ◌∷◌, ◌++◌, get_or, sym, refl, ap, ◌∙◌, subst, ap₂, inl, inr, ⊎_elim, arith}
 use mathlib.Core.List.Memᴰ
 use mathlib.Core.List.{Memᴰ}
 use Rattle.diagrams.specs.Kinds.{Kind}
 use Rattle.diagrams.specs.Layouts.{Layout, Valid}
 use Rattle.diagrams.specs.Diagrams.{Diagram, leaf, node, Good}
 use Rattle.diagrams.specs.Sheets.{number}
-use Rattle.diagrams.specs.Reading.{nth, Children}
+use Rattle.diagrams.specs.Reading.{Children}
 use Rattle.diagrams.specs.Places.{Content, leaf_word, node_at, Stands}
 use Rattle.diagrams.proofs.Places.{one_handle}
 use Rattle.diagrams.proofs.Visits.{mem_last, number_within, number_more, nth_number}
@@ -16,7 +16,7 @@ use Rattle.places.specs.Tables.{holds, Used, Under, Extends, Given}
 use Rattle.places.proofs.Standing.{stands_used}
 use Rattle.places.proofs.Extending.{stands_still, stays, then, given_only, unshared}
 use Rattle.walks.specs.Walks.{StandFor}
-use Rattle.walks.proofs.Standing.{stand_push}
+use Rattle.walks.proofs.Standing.{stand_push, stand_nth}
 
 -- What the place of a record is to hold, where `handles` has those of the records before it: a leaf's word, or a node's level and its children's handles.
 abbrev pub wanted : List ℕ → List Diagram → Diagram → Content
@@ -31,17 +31,10 @@ pub record Placed (t u : Places) (diagrams : List Diagram) (handles : List ℕ) 
 
 -- Handles that stand for diagrams, one by one.
 module _ (at : ℕ → Content) where
-  pub stand_nth : (hs : List ℕ) (ds : List Diagram) (i : ℕ) → StandFor at hs ds → i < length ds → Stands at (nth ds i) (get_or hs i 0)
-  stand_nth [] [] i s l = absurd (omega arith)
-  stand_nth [] (d ∷ ds) i s l = absurd s
-  stand_nth (h ∷ hs) [] i s l = absurd s
-  stand_nth (h ∷ hs) (d ∷ ds) zero s l = s.0
-  stand_nth (h ∷ hs) (d ∷ ds) (suc i) s l = stand_nth hs ds i s.1 (omega arith)
-
   -- The handle with a diagram's number stands for it.
   pub stand_number : (hs : List ℕ) (ds : List Diagram) (d : Diagram) → StandFor at hs ds → Memᴰ d ds → Stands at d (get_or hs (number d ds) 0)
   stand_number hs ds d s q =
-      subst (λ x. Stands at x (get_or hs (number d ds) 0)) (nth_number d ds q) (stand_nth hs ds (number d ds) s (number_within d ds q))
+      subst (λ x. Stands at x (get_or hs (number d ds) 0)) (nth_number d ds q) (stand_nth at hs ds (number d ds) s (number_within d ds q))
 
   pub stand_member : (hs : List ℕ) (ds : List Diagram) (d : Diagram) → StandFor at hs ds → Memᴰ d ds → (h : ℕ) × Stands at d h
   stand_member hs ds d s q = (get_or hs (number d ds) 0, stand_number hs ds d s q)

@@ -23,6 +23,7 @@ pub fn admit<K: Value>(
     ensures past { drop limit list.new ≡ drop limit list.old }
 {
     let head = head_of::<K>(layout);
+    // The record is put into lent bytes, as every record is, so its length stands beside it.
     let mut record = [0; 70];
     let end = put_head(&mut record, 0, head.as_slice());
     let expected = Expected {

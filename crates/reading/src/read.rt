@@ -22,9 +22,9 @@ fn take<K: Value>(
     ensures answer { Read_in K.Value.kind (view layout.now) places.old places.new bytes.now result }
     ensures cleared { list.new ≡ replicate (length list.old) 0 }
 {
-    let walk = Cleared { marks: list };
-    let count = admit::<K>(layout, places.capacity() as usize, bytes, walk.marks)?;
-    let records = &walk.marks[..count];
+    let walk = Cleared { list };
+    let count = admit::<K>(layout, places.capacity() as usize, bytes, walk.list)?;
+    let records = &walk.list[..count];
     fill(places, bytes, records).map_err(|full| TableFault::Full {
         place: records[full.number] as usize,
     })
@@ -32,6 +32,7 @@ fn take<K: Value>(
 
 /// Reads the sheet in some bytes into the places of a table, and answers the place of its rule. The walk list has at least as many entries as the table
 /// has places; those are zero afterwards. Where the table is full, some of the sheet's records have places: the table is to be undone.
+// The places and the layout come apart, since a table lends them apart from its store.
 pub fn read<K: Value>(
     places: &mut Places,
     layout: &Layout,

@@ -1,11 +1,12 @@
 -- The diagrams for which places stand, one by one: there are no more than places. Assumes nothing.
-use Rattle.std.proofs.Common.{◌≡◌, ℕ, zero, suc, ◌<◌, ◌≤◌, List, [], ◌∷◌, ◌++◌, length, sym, refl, ap, subst, inl, inr, ⊎_elim, arith}
+use Rattle.std.proofs.Common.{◌≡◌, ℕ, zero, suc, ◌<◌, ◌≤◌, List, [], ◌∷◌, ◌++◌, length, get_or, sym, refl, ap, subst, inl, inr, ⊎_elim, arith}
 use mathlib.Core.List.Memᴰ
 use mathlib.Core.List.{Memᴰ}
 use Rattle.std.proofs.lemmas.Bool.{cases_eq}
 use Rattle.diagrams.specs.Diagrams.{Diagram}
 use Rattle.diagrams.specs.Sizes.{Distinct}
 use Rattle.diagrams.specs.Places.{Content, Stands}
+use Rattle.diagrams.specs.Reading.{nth}
 use Rattle.diagrams.proofs.Places.{stands_for_one}
 use Rattle.diagrams.proofs.Visits.{Mem}
 use Rattle.histories.proofs.Different.{distinct_within}
@@ -28,6 +29,14 @@ module _ (at : ℕ → Content) where
   stand_length [] (e ∷ es) all = absurd all
   stand_length (g ∷ gs) [] all = absurd all
   stand_length (g ∷ gs) (e ∷ es) all = ap suc (stand_length gs es all.1)
+
+  -- The handle at an index stands for the diagram there.
+  pub stand_nth : (hs : List ℕ) (ds : List Diagram) (i : ℕ) → StandFor at hs ds → i < length ds → Stands at (nth ds i) (get_or hs i 0)
+  stand_nth [] [] i s l = absurd (omega arith)
+  stand_nth [] (d ∷ ds) i s l = absurd s
+  stand_nth (h ∷ hs) [] i s l = absurd s
+  stand_nth (h ∷ hs) (d ∷ ds) zero s l = s.0
+  stand_nth (h ∷ hs) (d ∷ ds) (suc i) s l = stand_nth hs ds i s.1 (omega arith)
 
   -- Each of the handles stands for one of the diagrams.
   pub stand_has : (hs : List ℕ) (ds : List Diagram) → StandFor at hs ds → (h : ℕ) → Memᴰ h hs

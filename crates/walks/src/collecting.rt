@@ -10,6 +10,8 @@ use places::places::Places;
 
 /// Comes to every place that is reached from a place and was not come to before, children before parents, low before high. The mark of such a place
 /// is its number in the order and one.
+// Marks and order are no struct: the marks are lent, so each clause on it would also say that it still holds the same list, and that they are enough is a
+// fact about the places too.
 pub fn collect(places: &Places, place: u16, marks: &mut [u32], order: &mut Order)
     requires used { Used places.now place }
     requires room { places.now.capacity ≤ length marks.old }

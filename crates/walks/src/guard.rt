@@ -4,15 +4,15 @@ ghost use Rattle.std.specs.Prelude.{◌≡◌, ◌≤◌, ◌++◌, length, drop
 // Each call that is lent a list tests its length and takes the first entries itself: no proof is found of what the list is after a function that answers
 // a part of it, or a guard over a part, only where it is long enough.
 pub struct Cleared<'a> {
-    pub marks: &'a mut [u32],
+    pub list: &'a mut [u32],
 }
 
 impl Drop for Cleared<'_> {
     fn drop(self)
-        ensures { self.exit.0.now ≡ replicate (length self.entry.marks.now) 0 }
+        ensures { self.exit.0.now ≡ replicate (length self.entry.list.now) 0 }
     {
-        let Cleared { marks } = self;
-        marks.fill(0);
+        let Cleared { list } = self;
+        list.fill(0);
     }
 }
 

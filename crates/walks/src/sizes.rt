@@ -60,9 +60,9 @@ fn sized(places: &Places, handle: u32, marks: &mut [u32]) -> Result<u32, Refusal
     ensures answer { (walk : List ℕ) → places.now.capacity ≤ length walk → Sized places.now handle walk result }
     ensures cleared { marks.new ≡ replicate (length marks.old) 0 }
 {
-    let walk = Cleared { marks };
+    let walk = Cleared { list: marks };
     let place = places.live(handle).ok_or(Refusal::NotLive)?;
-    let order = reach(places, place, walk.marks);
+    let order = reach(places, place, walk.list);
     Ok(nodes(places, &order))
 }
 

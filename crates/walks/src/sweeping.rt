@@ -35,9 +35,9 @@ fn swept(places: &mut Places, marks: &mut [u32]) -> u32
     ensures answer { Swept places.old places.new result }
     ensures cleared { marks.new ≡ replicate (length marks.old) 0 }
 {
-    let walk = Cleared { marks };
-    mark_kept(places, walk.marks);
-    u32::from(places.free_unmarked(walk.marks))
+    let walk = Cleared { list: marks };
+    mark_kept(places, walk.list);
+    u32::from(places.free_unmarked(walk.list))
 }
 
 /// Frees every place that is not reached from places 0, 1 or one that is held, and answers how many it freed.

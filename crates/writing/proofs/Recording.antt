@@ -6,22 +6,16 @@ use Rattle.diagrams.specs.Diagrams.{Diagram, leaf, node}
 use Rattle.diagrams.specs.Sizes.{itself, in_low, in_high}
 use Rattle.diagrams.specs.Sheets.{visited, number, two, record_of, record_at, records}
 use Rattle.diagrams.specs.Places.{Content, Stands}
-use Rattle.diagrams.proofs.Visits.{Mem, number_within}
+use Rattle.diagrams.specs.Reading.{nth}
+use Rattle.diagrams.proofs.Visits.{Mem, mem_nth, number_within}
 use Rattle.diagrams.proofs.Measures.{Closed, closed_none, stays_closed}
 use Rattle.places.specs.declared.places.Places.{Places}
 use Rattle.places.specs.Tables.{holds}
 use Rattle.walks.specs.Walks.{StandFor, Collected}
-use Rattle.walks.proofs.Standing.{stand_length, stand_few}
+use Rattle.walks.proofs.Standing.{stand_nth, stand_length, stand_few}
 use Rattle.writing.specs.Records.{Numbered, Ready, entry, entries, body}
 
 module _ (at : ℕ → Content) where
-  -- The place at an index stands for one of the diagrams.
-  stand_at : (hs : List ℕ) (ds : List Diagram) → StandFor at hs ds → (i : ℕ) → i < length hs → (d : Diagram) × Mem d ds × Stands at d (get_or hs i 0)
-  stand_at [] ds all i lt = absurd (omega arith)
-  stand_at (h ∷ hs) [] all i lt = absurd all
-  stand_at (h ∷ hs) (d ∷ ds) all zero lt = (d, Memᴰ.head refl, all.0)
-  stand_at (h ∷ hs) (d ∷ ds) all (suc i) lt = let r = stand_at hs ds all.1 i (omega arith) in (r.0, Memᴰ.tail r.1, r.2)
-
   module _ (marks : List ℕ) where
     entries_suc : (hs : List ℕ) (i : ℕ) → i < length hs → entries at marks (take (suc i) hs) ≡ entries at marks (take i hs) ++ entry marks (at (get_or hs i 0))
     entries_suc [] i lt = absurd (omega arith)
@@ -81,8 +75,8 @@ module _ (t : Places) (marks order : List ℕ) (start : Diagram) (c : Collected 
 
   pub ready_at : (i h : ℕ) → i < length order → h ≡ get_or order i 0 → Ready marks (holds t h)
   ready_at i h lt here =
-      let r = stand_at (holds t) order all c.stand i lt in
-      ready r.0 h (subst (Stands (holds t) r.0) (sym here) r.2) r.1
+      let inside : i < length all = omega (arith, stand_length (holds t) order all c.stand) in
+      ready (nth all i) h (subst (Stands (holds t) (nth all i)) (sym here) (stand_nth (holds t) order all i c.stand inside)) (mem_nth all i inside)
 
   entry_same : (d : Diagram) (h : ℕ) → Stands (holds t) d h → Mem d all → entry marks (holds t h) ≡ record_at all d
   entry_same (leaf v) h p m = ap (entry marks) p

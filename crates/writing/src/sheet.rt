@@ -29,6 +29,7 @@ fn measure(levels: u8, records: usize, nodes: u32) -> u32
 }
 
 // Puts the head, the records of a walk's places and the end.
+#[tactic(auto, using(crate::proofs::Measuring::parts_length))]
 fn put_sheet(places: &Places, marks: &[u32], order: &Order, head: &Head, out: &mut [u8])
     requires { (d : Diagram) × Collected places.now marks.now (collected order.now) (visited d []) × (length (under_head (head_bytes head.now) d) ≤ length out.old) }
     ensures { (d : Diagram) → Collected places.now marks.now (collected order.now) (visited d []) → out.new ≡ sets out.old 0 (under_head (head_bytes head.now) d) }
@@ -50,18 +51,19 @@ fn written<K: Value>(
     ensures answer { (walk : List ℕ) → places.now.capacity ≤ length walk → Written K.Value.kind (view layout.now) places.now handle walk output.old output.new result }
     ensures cleared { marks.new ≡ replicate (length marks.old) 0 }
 {
-    let walk = Cleared { marks };
+    let walk = Cleared { list: marks };
     let place = places.live(handle).ok_or(Refusal::NotLive)?;
-    let order = reach(places, place, walk.marks);
+    let order = reach(places, place, walk.list);
     let needed = measure(layout.size(), order.len(), nodes(places, &order));
     if output.len() < needed as usize {
         return Err(Refusal::OutputTooShort);
     }
-    put_sheet(places, walk.marks, &order, &head_of::<K>(layout), output);
+    put_sheet(places, walk.list, &order, &head_of::<K>(layout), output);
     Ok(needed)
 }
 
 /// Writes the sheet of a handle's rule into the output, and answers the sheet's length.
+// The places and the layout come apart, since a table lends them apart from its store.
 pub fn write<K: Value>(
     places: &Places,
     layout: &Layout,

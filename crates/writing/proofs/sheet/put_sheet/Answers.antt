@@ -1,47 +1,12 @@
-use Rattle.std.proofs.Common.{◌≡◌, ℕ, List, [], ◌++◌, length, ap, ◌∙◌, ap₂, arith}
+use Rattle.std.proofs.Common.{◌≡◌, ℕ, List, [], ◌++◌, length, ◌∙◌, ap₂}
 use lib.Seq.{sets}
 use Rattle.diagrams.specs.Sheets.{visited, two, record_of}
 use Rattle.places.specs.Tables.{holds}
 use Rattle.walks.specs.Orders.{collected}
 use Rattle.walks.proofs.Standing.{stand_length}
 use Rattle.sheets.proofs.Joining.{sets_then, place_then}
-use Rattle.writing.specs.Heads.{head_bytes}
 use Rattle.writing.specs.Records.{body}
-use Rattle.writing.proofs.Measuring.{parts_length}
 use Rattle.writing.proofs.sheet.put_sheet.Goals as goal
-
-pub put_head-after_head-requires : goal.put_head-after_head-requires
-put_head-after_head-requires c =
-    let head = c.args.head.now in
-    let same = ap length c.as_slice.ensures.value in
-    record { small = c.as_slice.ensures.fits; room = omega (arith, same, parts_length (head_bytes head) c.requires.0, c.requires.2) }
-
-pub put_records-after_records-requires : goal.put_records-after_records-requires
-put_records-after_records-requires c = (
-  c.requires.0,
-  c.requires.1,
-  omega (
-    arith,
-    ap length c.as_slice.ensures.value,
-    parts_length (head_bytes c.args.head.now) c.requires.0,
-    c.requires.2,
-    c.put_head-after_head.ensures.after,
-    c.put_head-after_head.auto.out,
-  ),
-)
-
-pub put_end-requires : goal.put_end-requires
-put_end-requires c =
-    omega (
-      arith,
-      ap length c.as_slice.ensures.value,
-      parts_length (head_bytes c.args.head.now) c.requires.0,
-      c.requires.2,
-      c.put_head-after_head.ensures.after,
-      c.put_head-after_head.auto.out,
-      c.put_records-after_records.ensures.after c.requires.0 c.requires.1,
-      c.put_records-after_records.auto.out,
-    )
 
 pub returns : goal.returns
 returns c = λ d w.
