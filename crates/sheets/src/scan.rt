@@ -33,10 +33,10 @@ fn next<V: Value>(
 {
     let item = Item::read(&bytes[place..], place, list.len())?;
     let records = Records::new(bytes, list);
-    match records.check_item::<V>(expected, item) {
-        Ok(()) => Ok(item),
-        Err(refusal) => Err(broken(refusal, place)),
-    }
+    records
+        .check_item::<V>(expected, item)
+        .map_err(|refusal| broken(refusal, place))?;
+    Ok(item)
 }
 
 // One more record, its byte place put into the list; nothing at the end.
