@@ -36,13 +36,6 @@ Sized (Leaf v) size = size ≡ 8
 Sized (Node l x y) size = size ≡ 9
 Sized (End n) size = ⊥
 
--- A list of which an early entry is set, past that entry.
-pub drop_set : (n i v : ℕ) (xs : List ℕ) → i < n → drop n (set xs i v) ≡ drop n xs
-drop_set n i v [] h = refl
-drop_set zero i v (x ∷ xs) h = absurd (omega arith)
-drop_set (suc n) zero v (x ∷ xs) h = refl
-drop_set (suc n) (suc i) v (x ∷ xs) h = drop_set n i v xs (omega arith)
-
 module _ (K : Kind) (L : Layout) where
   pub length_header : length (header K L) ≡ 6 + 2 * L.size
   length_header =

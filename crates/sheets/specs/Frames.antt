@@ -24,6 +24,10 @@ Framing place bytes (Err f) = (cut bytes ≡ true) × (f.place ≡ place)
 abbrev pub item_of : ℕ → List ℕ → Item
 item_of kind bytes = by_kind kind (Leaf (four_at 4 bytes)) (Node (slice_index bytes 4) (two_at 5 bytes) (two_at 7 bytes)) (End (two_at 4 bytes))
 
+-- The same, where the body alone is given.
+abbrev pub item_in : ℕ → List ℕ → Item
+item_in kind body = by_kind kind (Leaf (four_at 0 body)) (Node (slice_index body 0) (two_at 1 body) (two_at 3 body)) (End (two_at 0 body))
+
 -- The record at the front of the bytes, after so many leaves and nodes: what it holds, or the first of the rules of frames that it breaks.
 abbrev pub Framed : ℕ → ℕ → List ℕ → Result Item SheetFault → Type 0
 Framed count place bytes (Ok item) = (unless bad (frame_rules count bytes) fine ≡ fine) × (item ≡ item_of (kind_of bytes) bytes)

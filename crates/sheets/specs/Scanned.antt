@@ -6,6 +6,7 @@ use Rattle.diagrams.specs.Diagrams.{Lawful, Diagram}
 use Rattle.diagrams.specs.Sheets.{visited, record_at, records, header, ender}
 use Rattle.diagrams.specs.Reading.{drawn, bad, fine, unless, nth, last, Follow, head_rules, begun_with, read_sheet}
 use Rattle.refusals.specs.declared.fault.SheetFault.{SheetFault}
+use Rattle.sheets.specs.declared.head.Expected.{Expected}
 use Rattle.sheets.specs.declared.scan.Progress.{Progress}
 use Rattle.sheets.specs.Faults.{Tells, failed}
 use Rattle.sheets.specs.Held.{Held}
@@ -18,6 +19,10 @@ module _ (K : Kind) (L : Layout) where
     pub head_is : head ≡ header K L
     pub types_are : Types L types
     pub small : limit < 65536
+
+  -- The same, of what a table asks.
+  abbrev pub Asks : Expected → Type 0
+  Asks expected = Suits expected.head.now expected.types.now expected.limit
 
   -- The bytes begin with the head record.
   abbrev pub Begun : List ℕ → Type 0

@@ -1,7 +1,7 @@
 ghost use Rattle.std.specs.Prelude.{◌≡◌, ℕ, ◌≤◌, length, drop};
 ghost use Rattle.diagrams.specs.Kinds.{Kind};
 ghost use Rattle.diagrams.specs.Layouts.{Layout};
-ghost use Rattle.sheets.specs.Scanned.{Suits, Complete, Checked};
+ghost use Rattle.sheets.specs.Scanned.{Asks, Complete, Checked};
 
 use crate::fault::broken;
 use crate::head::Expected;
@@ -32,9 +32,9 @@ pub fn check<V: Value>(
     expected: Expected<'_>,
     list: &mut [u32],
 ) -> Result<usize, SheetFault>
-    requires suits { (L : Layout) × Suits V.Value.kind L expected.head.now expected.types.now expected.limit }
+    requires suits { (L : Layout) × Asks V.Value.kind L expected }
     requires room { expected.limit ≤ length list.old }
-    ensures answer { (L : Layout) → Suits V.Value.kind L expected.entry.head.now expected.entry.types.now expected.entry.limit → Checked V.Value.kind L expected.entry.limit bytes.now list.new result }
+    ensures answer { (L : Layout) → Asks V.Value.kind L expected.entry → Checked V.Value.kind L expected.entry.limit bytes.now list.new result }
     ensures past { drop expected.entry.limit list.new ≡ drop expected.entry.limit list.old }
 {
     expected.check_head(bytes)?;

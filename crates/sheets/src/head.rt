@@ -1,6 +1,6 @@
 ghost use Rattle.diagrams.specs.Kinds.{Kind};
 ghost use Rattle.diagrams.specs.Layouts.{Layout};
-ghost use Rattle.sheets.specs.Scanned.{Suits, Headed};
+ghost use Rattle.sheets.specs.Scanned.{Asks, Headed};
 
 use crate::fault::broken;
 use crate::frame::Frame;
@@ -21,7 +21,7 @@ pub struct Expected<'a> {
 impl Expected<'_> {
     /// Whether bytes begin with the head, or the first of the rules 13 to 16 that they break.
     pub fn check_head(self, bytes: &[u8]) -> Result<(), SheetFault>
-        ensures { (K : Kind) (L : Layout) → Suits K L self.entry.head.now self.entry.types.now self.entry.limit → Headed K L self.entry.limit bytes.now result }
+        ensures { (K : Kind) (L : Layout) → Asks K L self.entry → Headed K L self.entry.limit bytes.now result }
     {
         let frame = Frame::read(bytes, 0)?;
         if frame.kind != Some(RecordKind::Head) {

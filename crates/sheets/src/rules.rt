@@ -14,6 +14,7 @@ use refusals::Refusal;
 
 impl Records<'_> {
     // Whether a node's level or children are out of place, in a layout of that size.
+    // A struct of the three would be no plainer: `Item::Node` holds them, and they are taken apart here alone and where the rules are checked.
     fn misplaces(&self, size: u8, level: u8, low: u16, high: u16) -> bool
         ensures { (K : Kind) (L : Layout) (limit : ℕ) → size ≡ L.size → result ≡ is_broken 19 (node_rules K L limit self.now level low high) }
     {
@@ -26,6 +27,7 @@ impl Records<'_> {
     }
 
     // Whether the drop rule removes a node, on a level whose type has that number.
+    // This crate knows a layout by its bytes in the head record, so a type is its number here.
     fn drops<V: Value>(&self, form: u8, low: u16, high: u16) -> bool
         requires { (low < length self.now) × (high < length self.now) }
         ensures { (t : Decomposition) → Distinct self.now → form ≡ type_code t → result ≡ holds (same (nth self.now high) (spare V.Value.kind t (nth self.now low))) }

@@ -3,7 +3,7 @@ ghost use Rattle.diagrams.specs.Diagrams.{Diagram};
 ghost use Rattle.diagrams.specs.Layouts.{Layout};
 ghost use Rattle.sheets.specs.Held.{Listed};
 ghost use Rattle.sheets.specs.Judged.{Types, Next};
-ghost use Rattle.sheets.specs.Scanned.{Suits, Begun, At, Stepped, Scanned};
+ghost use Rattle.sheets.specs.Scanned.{Asks, Begun, At, Stepped, Scanned};
 
 use crate::fault::broken;
 use crate::head::Expected;
@@ -33,10 +33,10 @@ fn next<V: Value>(
 {
     let item = Item::read(&bytes[place..], place, list.len())?;
     let records = Records::new(bytes, list);
-    match records.check_item::<V>(expected, item) {
-        Ok(()) => Ok(item),
-        Err(refusal) => Err(broken(refusal, place)),
-    }
+    records
+        .check_item::<V>(expected, item)
+        .map_err(|refusal| broken(refusal, place))?;
+    Ok(item)
 }
 
 // One more record, its byte place put into the list; nothing at the end.
@@ -46,9 +46,9 @@ fn step<V: Value>(
     list: &mut [u32],
     reached: Progress,
 ) -> Result<Option<Progress>, SheetFault>
-    requires reads { (L : Layout) × Suits V.Value.kind L expected.head.now expected.types.now expected.limit × At V.Value.kind L expected.limit bytes.now reached.place reached.count list.old }
+    requires reads { (L : Layout) × Asks V.Value.kind L expected × At V.Value.kind L expected.limit bytes.now reached.place reached.count list.old }
     requires room { expected.limit ≤ length list.old }
-    ensures reads { (L : Layout) → Suits V.Value.kind L expected.entry.head.now expected.entry.types.now expected.entry.limit → At V.Value.kind L expected.entry.limit bytes.now reached.place reached.count list.old → Stepped V.Value.kind L expected.entry.limit bytes.now reached.place reached.count list.new result }
+    ensures reads { (L : Layout) → Asks V.Value.kind L expected.entry → At V.Value.kind L expected.entry.limit bytes.now reached.place reached.count list.old → Stepped V.Value.kind L expected.entry.limit bytes.now reached.place reached.count list.new result }
     ensures past { drop expected.entry.limit list.new ≡ drop expected.entry.limit list.old }
 {
     let seen = &list[..reached.count];
@@ -70,9 +70,9 @@ pub fn scan<V: Value>(
     expected: Expected<'_>,
     list: &mut [u32],
 ) -> Result<Progress, SheetFault>
-    requires reads { (L : Layout) × Suits V.Value.kind L expected.head.now expected.types.now expected.limit × Begun V.Value.kind L bytes.now }
+    requires reads { (L : Layout) × Asks V.Value.kind L expected × Begun V.Value.kind L bytes.now }
     requires room { expected.limit ≤ length list.old }
-    ensures reads { (L : Layout) → Suits V.Value.kind L expected.entry.head.now expected.entry.types.now expected.entry.limit → Begun V.Value.kind L bytes.now → Scanned V.Value.kind L expected.entry.limit bytes.now list.new result }
+    ensures reads { (L : Layout) → Asks V.Value.kind L expected.entry → Begun V.Value.kind L bytes.now → Scanned V.Value.kind L expected.entry.limit bytes.now list.new result }
     ensures past { drop expected.entry.limit list.new ≡ drop expected.entry.limit list.old }
 {
     let mut reached = Progress {

@@ -1,25 +1,13 @@
 -- Past the end: no bytes, and the numbers that writing gives. Assumes nothing.
 use Rattle.std.proofs.Common.{arith}
-use mir.Facts.{Fits-below}
-use Rattle.sheets.proofs.Scanning.{listed, held, near, extra, all_right, one_wrong}
+use Rattle.sheets.proofs.Scanning.{listed, held, extra, all_right, one_wrong}
 use Rattle.sheets.proofs.check.finish.Goals as goal
-
-pub overflow_add-after : goal.overflow_add-after
-overflow_add-after c =
-    let read = c.requires.3 in
-    Fits-below {n = 600006} tt (omega (arith, near read.lawful read.small read.ends.at read.room))
 
 pub returns-then-after-bytes : goal.returns-then-after-bytes
 returns-then-after-bytes c = λ K L limit read. rw c.broken.ensures (extra read.lawful read.small read.ends read.room c.if-after-bytes.true)
 
 pub new-records-requires : goal.new-records-requires
 new-records-requires c = let read = c.requires.3 in (read.ends.at.seen, listed read.lawful read.small read.ends.at read.room)
-
-pub overflow_sub-end : goal.overflow_sub-end
-overflow_sub-end c = omega (arith, c.requires.3.ends.some)
-
-pub overflow_cast-end : goal.overflow_cast-end
-overflow_cast-end c = let read = c.requires.3 in Fits-below {n = 65535} tt (omega (arith, read.ends.at.counted, read.ends.at.fits, read.small))
 
 pub visit-requires : goal.visit-requires
 visit-requires c =

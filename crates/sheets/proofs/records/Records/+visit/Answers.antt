@@ -10,23 +10,12 @@ use Rattle.sheets.proofs.records.Records.+visit.Goals.{in-Node+in_ok-after+in_ok
 pub returns-then-i-next : goal.returns-then-i-next
 returns-then-i-next t c = λ apart. visiting.numbered_already c.args.self.now c.args.i c.args.next apart c.if-i-next.true c.requires.1
 
-pub visit-requires : goal.visit-requires
-visit-requires t c =
-    let before = c.in-Node.ensures.earlier.0 in
-    (omega (arith, before, c.decreases), (omega (arith, before), omega arith))
-
 pub returns-in_err-after : goal.returns-in_err-after
 returns-in_err-after t c = λ apart.
     let q = err_from_is_err_and c.from_residual.result c.from_residual.ensures.1 in
     rw (q.1, q.2)
     (visiting.low_strays c.args.self.now c.args.i c.args.next c.in-Node.level c.in-Node.low c.in-Node.high _ apart c.requires.0 c.in-Node.ensures.draws (omega (arith, c.if-i-next.false))
     (c.in_err-after.ensures apart))
-
-pub visit-requires-in-Node : goal.visit-requires-in-Node
-visit-requires-in-Node t c =
-    let before = c.in-Node.ensures.earlier in
-    let low = c.in_ok-after.ensures c.item.ensures.apart in
-    (omega (arith, before.1, c.decreases), (omega (arith, before.1), omega (arith, low.count, before.0)))
 
 pub returns-in_err-after-2 : goal.returns-in_err-after-2
 returns-in_err-after-2 t c = λ apart.

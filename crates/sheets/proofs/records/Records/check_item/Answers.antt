@@ -4,8 +4,5 @@ use Rattle.sheets.proofs.records.Records.check_item.Goals as goal
 pub returns-in-Leaf : goal.returns-in-Leaf
 returns-in-Leaf g c = λ L types. rw c.in-Leaf.is (c.check_leaf.ensures L)
 
-pub returns-in-Node : goal.returns-in-Node
-returns-in-Node g c = λ L types. rw c.in-Node.is (c.check_node.ensures L types)
-
 pub returns-in-End : goal.returns-in-End
 returns-in-End g c = λ L types. rw c.in-End.is (c.check_end.ensures g.V.Value.kind L c.args.expected.limit)
