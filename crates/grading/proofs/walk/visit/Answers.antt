@@ -1,8 +1,0 @@
--- The children that a node's type and mark choose are opened. Assumes nothing.
-use Rattle.grading.proofs.walk.visit.Goals as goal
-
-pub returns-in-Node : goal.returns-in-Node
-returns-in-Node g c = record {
-  gives = rw (← c.in-Node.ensures) c.zero_word.ensures;
-  opens = rw (← c.in-Node.ensures) (cc (c.of-turn.ensures c.in-Node.low c.in-Node.high));
-}
