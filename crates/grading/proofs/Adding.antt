@@ -118,6 +118,3 @@ module _ (K : Kind) (L : Layout) (ok : Lawful K L) (t : Places) (fruit : ℕ) wh
                 b.whole ∙ ap (K.sum total) s.whole ∙ sym (laws.arithmetic.sum_assoc _ _ _ b.value s.value (sums_value _ s.rest s.sums));
             value = laws.arithmetic.sum_value _ _ b.value s.value;
           }
-
-  pub ended : (handle total : ℕ) → Adding K L t fruit handle [] total → (d : Diagram) → Stands (holds t) d handle → Good K L 0 d → total ≡ rule K L d fruit
-  ended handle total x d p g = let b = x.left d p g in sym (b.whole ∙ ap (K.sum total) b.sums ∙ laws.arithmetic.sum_zero total b.value)

@@ -2,7 +2,7 @@ use Rattle.std.proofs.Common.{arith}
 use Rattle.layouts.specs.View.{view}
 use Rattle.building.specs.Operations.{meant}
 use Rattle.building.proofs.Beginning.{value_combined}
-use Rattle.building.proofs.Splitting.{basis, stop1, high_stop, both, stop2, stop3, stop4, stop5, stop6, all_six, crosses_by, high_below, plain_below, below2, below3, below4, below5, below6, crossed_below}
+use Rattle.building.proofs.Splitting.{basis, stop1, high_stop, both, stop2, stop3, stop4, stop5, stop6, all_six, crosses_by, plain_below, below3, below4, below5, below6, crossed_below}
 use Rattle.building.proofs.combine.+combine.Goals as goal
 
 pub returns-in-Handle : goal.returns-in-Handle
@@ -15,12 +15,6 @@ pub returns-in_err-low : goal.returns-in_err-low
 returns-in_err-low g t c =
     rw c.from_residual.ensures
     (stop1 (basis c.higher-level.ensures c.in_default.ensures c.parts-la.ensures c.parts-lb.ensures) c.in_err-low.ensures)
-
-pub combine-requires-then-crosses : goal.combine-requires-then-crosses
-combine-requires-then-crosses g t c κs within =
-    let p = basis c.higher-level.ensures c.in_default.ensures c.parts-la.ensures c.parts-lb.ensures in
-    let q = below2 p c.in_ok-low.ensures in
-    (omega (arith, p.level, p.small, q.0.level, q.1.level, c.decreases), (within.0, (within.1, (q.0.used, q.1.used))))
 
 pub returns-in_err-lh : goal.returns-in_err-lh
 returns-in_err-lh g t c =
@@ -81,12 +75,6 @@ pub returns-then-crosses : goal.returns-then-crosses
 returns-then-crosses g t c =
     all_six (basis c.higher-level.ensures c.in_default.ensures c.parts-la.ensures c.parts-lb.ensures) c.in_ok-low.ensures (crosses_by (meant c.args.operation) c.if-crosses.ensures c.form.ensures) c.in_ok-lh.ensures c.in_ok-hl.ensures c.in_ok-mixed.ensures c.in_ok-hh.ensures c.in_ok-high.ensures
     c.finish.ensures.joined _ c.key-key.ensures c.finish.ensures.closed
-
-pub combine-requires-2 : goal.combine-requires-2
-combine-requires-2 g t c κs within =
-    let p = basis c.higher-level.ensures c.in_default.ensures c.parts-la.ensures c.parts-lb.ensures in
-    let q = high_below p c.in_ok-low.ensures.kept in
-    (omega (arith, p.level, p.small, q.0.level, q.1.level, c.decreases), (within.0, (within.1, (q.0.used, q.1.used))))
 
 pub returns-in_err-high-2 : goal.returns-in_err-high-2
 returns-in_err-high-2 g t c =

@@ -1,14 +1,13 @@
 -- Each turn moves what a place adds from the open places to the total. Assumes nothing.
-use Rattle.std.proofs.Common.{ℕ, List, [], ◌∷◌, ◌++◌, ap, ◌∙◌, subst}
-use Rattle.std.proofs.lemmas.Bool.{false≢true}
+use Rattle.std.proofs.Common.{ℕ, List, [], ◌∷◌, ◌++◌, ap, ◌∙◌}
 use Rattle.diagrams.specs.Diagrams.{Lawful}
 use Rattle.layouts.specs.declared.layout.Layout.{Layout}
 use Rattle.layouts.specs.View.{view}
 use Rattle.layouts.proofs.Laying.{layout_valid}
 use Rattle.grading.specs.Frames.{pending}
-use Rattle.grading.proofs.Pending.{last_first, none_left}
-use Rattle.grading.proofs.Stacking.{Stacked, opened_lighter}
-use Rattle.grading.proofs.Adding.{began, went, ended}
+use Rattle.grading.proofs.Pending.{last_first}
+use Rattle.grading.proofs.Stacking.{opened_lighter}
+use Rattle.grading.proofs.Adding.{began, went}
 use Rattle.grading.proofs.walk.grade.Given.{Over}
 use Rattle.grading.proofs.walk.grade.Goals as goal
 
@@ -20,9 +19,6 @@ loop-place-init g c =
     rw (last_first _ [] _ (c.push.ensures.items ∙ ap (λ (xs : List ℕ). xs ++ (c.args.handle ∷ [])) c.new-frames.ensures), c.ZERO-total.ensures ∙ g.met.K.Value.zero_of_kind)
     (began _ _ (lawful g c.args.layout.now) _ _ c.args.handle)
 
-pub visit-requires : goal.visit-requires
-visit-requires g c = (subst (Stacked c.args.places.now) (last_first _ _ _ c.in-Some.ensures.items) c.loop-place.invariant.stacked).0
-
 pub loop-place-smaller : goal.loop-place-smaller
 loop-place-smaller g c =
     let t = c.args.places.now in
@@ -33,8 +29,3 @@ pub loop-place-preserved : goal.loop-place-preserved
 loop-place-preserved g c =
     rw (c.visit.ensures.opens, c.sum-total.ensures, c.visit.ensures.gives)
     (went _ _ (lawful g c.args.layout.now) _ _ _ _ _ _ (rw (last_first _ _ _ c.in-Some.ensures.items) at c.loop-place.invariant))
-
-pub returns : goal.returns
-returns g c =
-    ended _ _ (lawful g c.args.layout.now) _ _ _ _
-    (rw (none_left _ (λ some. false≢true (c.in_default.ensures.variant.1 some))) at c.loop-place.invariant)
