@@ -1,5 +1,5 @@
 // What is printed for a refused command.
-use refusals::{Layer, Refusal, TableFault};
+use refusals::{Refusal, TableFault};
 use std::fmt;
 
 #[derive(Clone, Copy)]
@@ -8,14 +8,6 @@ pub enum Refused {
     Call(Refusal),
     // A sheet is not read.
     Sheet(TableFault),
-}
-
-fn layer_word(layer: Layer) -> &'static str {
-    match layer {
-        Layer::Bytes => "bytes",
-        Layer::Sheet => "sheet",
-        Layer::Table => "table",
-    }
 }
 
 // The number of the refusal and its words; of a sheet also the layer and the byte place.
@@ -29,7 +21,7 @@ impl fmt::Display for Refused {
             Refused::Sheet(fault) => {
                 let refusal = fault.refusal();
                 let number = refusal.number();
-                let layer = layer_word(refusal.layer());
+                let layer = refusal.layer();
                 let place = fault.place();
                 write!(f, "refused {number} {layer} {place}: {refusal}")
             }
