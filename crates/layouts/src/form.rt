@@ -36,6 +36,7 @@ impl Form {
     pub fn number(self) -> u8
         ensures { result ≡ type_code (decomposition self) }
     {
+        // Named, and no `From` for `u8`: sheets hold the number of a form, and `number` says so at the call.
         self as u8
     }
 }

@@ -64,6 +64,7 @@ impl Refusal {
     pub fn number(self) -> u8
         ensures { result ≡ number self }
     {
+        // Named, and no `From` for `u8`: callers print the number beside the words, and `number` says which number it is.
         self as u8
     }
 

@@ -9,6 +9,7 @@ impl Capacity {
     pub fn new(places: u32) -> Result<Capacity, Refusal>
         ensures { counted result ≡ checked places }
     {
+        // A constructor, and no `TryFrom`: a number of places is what a capacity is made from, not another form of it.
         if !(2..=4096).contains(&places) {
             return Err(Refusal::Capacity);
         }
