@@ -48,7 +48,7 @@ swept s mark = cond (loose s mark) blank s
 abbrev pub loose_at : List Slot → List ℕ → ℕ → Bool
 loose_at slots marks h = loose (slice_index_or slots h blank) (slice_index marks h)
 
--- Every slot that has a number below as many as there are marks is swept, every other is as it was; so many are freed.
+-- As many slots as there are marks are swept, the slots past them are as they were; so many are freed.
 pub record Swept (before after : List Slot) (marks : List ℕ) (freed : ℕ) : Type 0 where
   pub size : length after ≡ length before
   pub below : (h : ℕ) → h < length marks → slice_index_or after h blank ≡ swept (slice_index_or before h blank) (slice_index marks h)

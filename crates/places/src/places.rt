@@ -5,7 +5,7 @@ ghost use Rattle.places.specs.Contents.{at, leafy, Past, Idle, Deeper, Apart};
 use crate::place::Place;
 
 // How many slots a table has.
-pub(crate) const SLOTS: usize = 4096;
+pub const SLOTS: usize = 4096;
 
 // A unique table: as many places as its capacity says may be in use, of which the first two hold leaves.
 // A whole array beside the capacity, free places too: a place keeps its number, and its record is lent to be filled, freed or counted.
