@@ -109,7 +109,7 @@ module _ {V S : Type 0} (K : Kind) (entries : S → Entries) (start : Open V S) 
       → Restricted K plan i n x start.places u f (entries s) r → Settled entries (filled u s) after saved r answer
       → Step K plan (open_model entries start) (plain (build (restrict h i c))) (gave answer) (open_model entries after)
   restricted_step h i c x n live told inside small u saved s after r answer same done end =
-      let here : Restricted K plan i c h start.places u f (entries s) r = 
+      let here : Restricted K plan i c h start.places u f (entries s) r =
       subst (λ n. Restricted K plan i c n start.places u f (entries s) r) live.0 (subst (λ n. Restricted K plan i n x start.places u f (entries s) r) told done) in
       let whole = sound.good h (alive h live.1) in
       let task = Tasks.restrict whole.0 i c in
