@@ -1,6 +1,7 @@
 -- Hex, read a pair at a time. Assumes nothing.
-use Rattle.std.proofs.Common.{◌≡◌, ℕ, zero, suc, ◌+◌, ◌/◌, ◌<◌, ◌≤◌, min, List, [], ◌∷◌, ◌++◌, length, get_or, take, Some, None, Ok, Err, Option, Result, sym, refl, ap, ◌∙◌, append_assoc, add-one, arith, Bor}
+use Rattle.std.proofs.Common.{◌≡◌, ℕ, zero, suc, ◌+◌, ◌/◌, ◌%◌, ◌<◌, ◌≤◌, min, Bool, true, false, cond, nat_le, List, [], ◌∷◌, ◌++◌, length, get_or, take, encode_utf8, Some, None, Ok, Err, Option, Result, sym, refl, ap, ◌∙◌, append_assoc, add-one, arith, Bor}
 use Rattle.std.proofs.lemmas.List.{take_all}
+use Rattle.std.proofs.lemmas.Str.{encode_ascii}
 use Rattle.std.specs.Option.{ok_or}
 use Rattle.std.specs.declared.slice.Chunks.{Chunks}
 use Rattle.std.specs.Slice.Iter.{chunks_rest, chunks_size, chunks_steps}
@@ -60,10 +61,20 @@ digits_push (b ∷ bs) zero lt = refl
 digits_push (b ∷ bs) (suc i) lt =
     let more = rw add-one at (digits_push bs i (omega arith)) in rw add-one (ap (λ l. hex_digit (b / 16) ∷ hex_digit b ∷ l) more)
 
--- a turn that writes a byte's two digits
-pub digits_more : (bs : List ℕ) (i h l : ℕ) (was out end : List ℕ) → i < length bs → out ≡ was ++ digits (take i bs) → end ≡ out ++ (h ∷ l ∷ []) → h ≡ hex_digit (get_or bs i 0 / 16) → l ≡ hex_digit (get_or bs i 0) → end ≡ was ++ digits (take (i + 1) bs)
-digits_more bs i h l was out end lt a b high low =
-    b ∙ ap (λ x. x ++ (h ∷ l ∷ [])) a ∙ append_assoc was _ (h ∷ l ∷ []) ∙ ap (λ x. was ++ x) (sym (digits_push bs i lt ∙ sym (λ k. digits (take i bs) ++ (high k ∷ low k ∷ []))))
+-- a digit is one byte of text
+hex_digit_ascii : (n : ℕ) → hex_digit n < 128
+hex_digit_ascii n = by (nat_le (n % 16) 9)
+  where
+    by : (small : Bool) → cond small (48 + n % 16) (87 + n % 16) < 128
+    by true = omega arith
+    by false = omega arith
+
+-- the two digits of the next byte, as they are written
+pub digits_written : (bs : List ℕ) (i h l : ℕ) → i < length bs → h ≡ hex_digit (get_or bs i 0 / 16) → l ≡ hex_digit (get_or bs i 0)
+    → (digits (take i bs) ++ encode_utf8 h) ++ encode_utf8 l ≡ digits (take (i + 1) bs)
+digits_written bs i h l lt high low =
+    rw (high, low, encode_ascii (hex_digit (get_or bs i 0 / 16)) (hex_digit_ascii _), encode_ascii (hex_digit (get_or bs i 0)) (hex_digit_ascii _), append_assoc)
+    (sym (digits_push bs i lt))
 
 -- the digits of all the bytes are their text
 pub digits_all : (bs : List ℕ) (i : ℕ) → length bs ≤ i → 0 < length bs → digits (take i bs) ≡ hex_text bs

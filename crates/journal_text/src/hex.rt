@@ -1,10 +1,11 @@
 // Bytes as pairs of hex digits.
-ghost use Rattle.std.specs.Prelude.{◌≡◌, true, ◌++◌, is_ok, Err, MatchResult, OnOk};
+ghost use Rattle.std.specs.Prelude.{◌≡◌, true, is_ok, Err, Some, MatchResult};
 ghost use Rattle.journal_text.specs.declared.hex.Unread.TheVariants as unread;
 ghost use Rattle.journal_text.specs.Hex.{hex_digit, hex_value, byte_of, digits_of, hex_of, Decoded, hex_text};
 
 use crate::mistake::Mistake;
-use std::alloc::{AllocError, AllocFailed, Global};
+use std::alloc::{AllocFailed, Global};
+use std::fmt;
 
 // Why a hex text gives no bytes.
 #[derive(Clone, Copy)]
@@ -98,17 +99,23 @@ fn decode(heap: Global, digits: &[u8]) -> Result<Vec<u8>, Unread>
     Ok(bytes)
 }
 
-// Adds the hex text of the bytes.
-#[tactic(auto, using(crate::proofs::Pairs::digits_all))]
-pub fn push_hex(out: &mut Vec<u8>, bytes: &[u8]) -> Result<(), AllocError>
-    ensures { OnOk result (out.new.items ≡ out.old.items ++ hex_text bytes.now) }
-{
-    if bytes.is_empty() {
-        out.push(b'-')?;
-        return Ok(());
+// Bytes that print as their hex text.
+#[derive(Clone, Copy)]
+pub struct InHex<'a> {
+    pub bytes: &'a [u8],
+}
+
+impl fmt::Display for InHex<'_> {
+    ghost output = { λ hex. Some (hex_text hex.bytes.now) };
+
+    fn fmt<W: fmt::Write>(&self, f: &mut fmt::Formatter<W>) -> fmt::Result {
+        if self.bytes.is_empty() {
+            return f.write_str("-");
+        }
+        for byte in self.bytes {
+            f.write_char(char::from(hex_digit(*byte / 16)))?;
+            f.write_char(char::from(hex_digit(*byte)))?;
+        }
+        Ok(())
     }
-    for byte in bytes {
-        out.extend_from_slice(&[hex_digit(*byte / 16), hex_digit(*byte)])?;
-    }
-    Ok(())
 }

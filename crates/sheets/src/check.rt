@@ -3,7 +3,6 @@ ghost use Rattle.diagrams.specs.Kinds.{Kind};
 ghost use Rattle.diagrams.specs.Layouts.{Layout};
 ghost use Rattle.sheets.specs.Scanned.{Asks, Complete, Checked};
 
-use crate::fault::broken;
 use crate::head::Expected;
 use crate::records::Records;
 use crate::scan::{Progress, scan};
@@ -17,12 +16,12 @@ fn finish(bytes: &[u8], list: &[u32], end: Progress) -> Result<usize, SheetFault
 {
     let after = end.place + 6;
     if after < bytes.len() {
-        return Err(broken(Refusal::BytesAfterEnd, after));
+        return Err(Refusal::BytesAfterEnd.at(after));
     }
     let records = Records::new(bytes, &list[..end.count]);
     match records.visit((end.count - 1) as u16, 0) {
         Ok(_) => Ok(end.count),
-        Err(stray) => Err(broken(Refusal::WrongNumber, list[stray.number as usize] as usize)),
+        Err(stray) => Err(Refusal::WrongNumber.at(list[stray.number as usize] as usize)),
     }
 }
 

@@ -2,7 +2,6 @@ ghost use Rattle.diagrams.specs.Kinds.{Kind};
 ghost use Rattle.diagrams.specs.Layouts.{Layout};
 ghost use Rattle.sheets.specs.Scanned.{Asks, Headed};
 
-use crate::fault::broken;
 use crate::frame::Frame;
 use crate::kind::RecordKind;
 use refusals::{Refusal, SheetFault};
@@ -25,13 +24,13 @@ impl Expected<'_> {
     {
         let frame = Frame::read(bytes, 0)?;
         if frame.kind != Some(RecordKind::Head) {
-            return Err(broken(Refusal::RecordKind, 0));
+            return Err(Refusal::RecordKind.at(0));
         }
         if 4 + frame.body.len() != self.head.len() {
-            return Err(broken(Refusal::RecordLength, 0));
+            return Err(Refusal::RecordLength.at(0));
         }
         if !bytes.starts_with(self.head) {
-            return Err(broken(Refusal::WrongHead, 0));
+            return Err(Refusal::WrongHead.at(0));
         }
         Ok(())
     }

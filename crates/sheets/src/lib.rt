@@ -2,7 +2,6 @@
 #![tactic(auto)]
 
 mod check;
-mod fault;
 mod frame;
 mod head;
 mod kind;

@@ -3,7 +3,6 @@ ghost use Rattle.diagrams.specs.Reading.{by_kind};
 ghost use Rattle.sheets.specs.Codes.{code};
 ghost use Rattle.sheets.specs.Frames.{Framed, item_in};
 
-use crate::fault::broken;
 use crate::frame::Frame;
 use crate::kind::RecordKind;
 use refusals::{Refusal, SheetFault};
@@ -27,9 +26,9 @@ impl Item {
         let frame = Frame::read(bytes, place)?;
         let kind = match frame.kind {
             Some(kind) if kind.follows(count) => kind,
-            _ => return Err(broken(Refusal::RecordKind, place)),
+            _ => return Err(Refusal::RecordKind.at(place)),
         };
-        Item::of_body(kind, frame.body).ok_or(broken(Refusal::RecordLength, place))
+        Item::of_body(kind, frame.body).ok_or(Refusal::RecordLength.at(place))
     }
 
     // What a body holds, if it is as long as its kind's. A head holds no item, and is not asked for one.

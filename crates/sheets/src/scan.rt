@@ -5,7 +5,6 @@ ghost use Rattle.sheets.specs.Held.{Listed};
 ghost use Rattle.sheets.specs.Judged.{Types, Next};
 ghost use Rattle.sheets.specs.Scanned.{Asks, Begun, At, Stepped, Scanned};
 
-use crate::fault::broken;
 use crate::head::Expected;
 use crate::record::Item;
 use crate::records::Records;
@@ -35,7 +34,7 @@ fn next<V: Value>(
     let records = Records::new(bytes, list);
     records
         .check_item::<V>(expected, item)
-        .map_err(|refusal| broken(refusal, place))?;
+        .map_err(|refusal| refusal.at(place))?;
     Ok(item)
 }
 

@@ -4,7 +4,7 @@ use Rattle.sheets.proofs.Scanning.{listed, held, extra, all_right, one_wrong}
 use Rattle.sheets.proofs.check.finish.Goals as goal
 
 pub returns-then-after-bytes : goal.returns-then-after-bytes
-returns-then-after-bytes c = λ K L limit read. rw c.broken.ensures (extra read.lawful read.small read.ends read.room c.if-after-bytes.true)
+returns-then-after-bytes c = λ K L limit read. rw c.at.ensures (extra read.lawful read.small read.ends read.room c.if-after-bytes.true)
 
 pub new-records-requires : goal.new-records-requires
 new-records-requires c = let read = c.requires.3 in (read.ends.at.seen, listed read.lawful read.small read.ends.at read.room)
@@ -36,4 +36,4 @@ returns-in-Err c = λ K L limit read.
     let at = read.ends.at in
     let e = c.new-records.ensures at.seen (listed read.lawful read.small at read.room) in
     let strays = (rw e at c.in-Err.ensures) (held read.lawful read.small at read.room).apart in
-    rw c.broken-in-Err.ensures (one_wrong read.lawful read.small read.ends read.room c.if-after-bytes.false c.in-Err.stray.number strays)
+    rw c.at-in-Err.ensures (one_wrong read.lawful read.small read.ends read.room c.if-after-bytes.false c.in-Err.stray.number strays)

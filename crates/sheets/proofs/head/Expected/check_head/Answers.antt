@@ -13,7 +13,7 @@ use Rattle.std.proofs.lemmas.Bool.Decides.{Decides-eqb}
 pub returns-then-ne : goal.returns-then-ne
 returns-then-ne c = λ K L suits.
     let other : c.in_ok-frame.frame.kind ≡ Some Head → ⊥ = search rules in
-    rw c.broken.ensures (record {
+    rw c.at.ensures (record {
       refused = not_head K L c.args.self.limit c.args.bytes.now c.in_ok-frame.ensures.whole (other_kind _ c.in_ok-frame.frame.kind c.in_ok-frame.ensures.kind_is other);
       there = refl;
     })
@@ -31,7 +31,7 @@ pub returns-then-frame-self : goal.returns-then-frame-self
 returns-then-frame-self c = λ K L suits.
     let f = head_frame (goal.at.returns-then-frame-self c).Else-ne in
     let long = ap length suits.head_is ∙ length_header K L in
-    rw c.broken-then-frame-self.ensures (record {
+    rw c.at-then-frame-self.ensures (record {
       refused = wrong_length K L c.args.self.limit c.args.bytes.now f.0 f.1 (λ e. c.if-frame-self.true (omega (arith, long, f.2)));
       there = refl;
     })
@@ -42,7 +42,7 @@ returns-then-not-starts_with c = λ K L suits.
     let long = ap length suits.head_is ∙ length_header K L in
     let stated_is : stated c.args.bytes.now ≡ 2 + 2 * L.size = omega (arith, long, f.2, c.if-frame-self.false) in
     let starts = starts_is Decides-eqb c.args.bytes.now c.args.self.head.now _ c.if-not-starts_with.ensures.value in
-    rw c.broken-then-not-starts_with.ensures (record {
+    rw c.at-then-not-starts_with.ensures (record {
       refused = wrong_head K L c.args.self.limit c.args.bytes.now f.0 f.1 stated_is
           (begins_not (header K L) c.args.bytes.now (λ rest e. starts.1 rest (e ∙ ap (λ h. h ++ rest) (sym suits.head_is))));
       there = refl;

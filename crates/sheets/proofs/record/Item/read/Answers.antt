@@ -14,4 +14,4 @@ returns-in_default c =
           ap (in_turn c.args.count) (sym kind) ∙ sym w.if-follows.ensures
       | in_default-via-in_default w ↦ none_in_turn c.args.count (kind_of c.args.bytes.now) (rw w.in_default.is at c.in_ok-frame.ensures.kind_is)
     ] in
-    rw c.broken.ensures (record { refused = out_of_turn c.args.count c.args.bytes.now c.in_ok-frame.ensures.whole turn; there = refl })
+    rw c.at.ensures (record { refused = out_of_turn c.args.count c.args.bytes.now c.in_ok-frame.ensures.whole turn; there = refl })
