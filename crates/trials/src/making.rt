@@ -9,34 +9,22 @@ use tables::Open;
 
 // The number of a refusal, 0 where the call is accepted.
 pub(crate) fn refused<T: Drop>(answer: Result<T, Refusal>) -> u8 {
-    match answer {
-        Ok(_) => 0,
-        Err(refusal) => refusal.number(),
-    }
+    answer.err().map_or(0, Refusal::number)
 }
 
 // A layout of so many marks.
 pub(crate) fn laid_out(marks: u32) -> Result<Layout, Fail> {
-    match Layout::begin(marks) {
-        Ok(layout) => Ok(layout),
-        Err(_) => Err(Fail::new("a layout has 1 to 32 marks")),
-    }
+    Layout::begin(marks).map_err(|_| Fail::new("a layout has 1 to 32 marks"))
 }
 
 // A capacity of so many places.
 pub(crate) fn places(number: u32) -> Result<Capacity, Fail> {
-    match Capacity::new(number) {
-        Ok(capacity) => Ok(capacity),
-        Err(_) => Err(Fail::new("a capacity is 2 to 4096")),
-    }
+    Capacity::new(number).map_err(|_| Fail::new("a capacity is 2 to 4096"))
 }
 
 // The handle that a call answers.
 pub(crate) fn given(answer: Result<u32, Refusal>) -> Result<u32, Fail> {
-    match answer {
-        Ok(handle) => Ok(handle),
-        Err(_) => Err(Fail::new("the call should be accepted")),
-    }
+    answer.map_err(|_| Fail::new("the call should be accepted"))
 }
 
 #[test]
