@@ -5,7 +5,7 @@ mod names;
 mod reading;
 
 pub use journal_text::decimal::number;
-pub use journal_text::hex::{Unread, hex_digit, push_hex, unhex};
+pub use journal_text::hex::{InHex, Unread, hex_digit, unhex};
 pub use journal_text::mistake::Mistake;
 pub use journal_text::scan::next_line;
 pub use journal_words::command::{Command, KindName, Line, Operand, StoreName};

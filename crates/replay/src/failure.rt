@@ -32,7 +32,7 @@ pub enum Failure {
 impl fmt::Display for Failure {
     fn fmt<W: fmt::Write>(&self, f: &mut fmt::Formatter<W>) -> fmt::Result {
         match self {
-            Failure::Line(mistake) => f.write_str(mistake.words()),
+            Failure::Line(mistake) => write!(f, "{mistake}"),
             Failure::UnboundName => f.write_str(
                 "unbound name: bind it first, by NAME = and a command that answers a handle",
             ),

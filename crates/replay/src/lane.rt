@@ -1,9 +1,9 @@
 // What a journal has said so far: its layout, the lists that calls are lent, and the names of handles. The commands that need no table are
 // carried out on it, and it prints what every command is answered.
 use crate::failure::{Failure, Stop};
-use crate::lists::{Hex, Lists, Runs};
+use crate::lists::{Lists, Runs};
 use crate::order::Order;
-use journal::{KindName, Line, Names, Operand, StoreName};
+use journal::{InHex, KindName, Line, Names, Operand, StoreName};
 use layouts::{Capacity, Layout};
 use std::alloc::Global;
 use std::fmt;
@@ -40,7 +40,7 @@ impl<'r> Lane<'r> {
     pub fn say_sheet(&self, length: u32) -> Result<(), Failure> {
         let output = &self.lists.output;
         let end = output.len().min(length as usize);
-        let sheet = Hex {
+        let sheet = InHex {
             bytes: &output[..end],
         };
         self.say(format_args!("sheet {sheet}"))
@@ -123,7 +123,7 @@ impl<'r> Lane<'r> {
     }
 
     pub fn show_output(&self) -> Result<(), Failure> {
-        let hex = Hex {
+        let hex = InHex {
             bytes: &self.lists.output,
         };
         self.say(format_args!("output {hex}"))

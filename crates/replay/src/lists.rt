@@ -56,24 +56,6 @@ impl Lists {
     }
 }
 
-// Bytes in hex, and `-` where there are none.
-#[derive(Drop)]
-pub struct Hex<'a> {
-    pub bytes: &'a [u8],
-}
-
-impl fmt::Display for Hex<'_> {
-    fn fmt<W: fmt::Write>(&self, f: &mut fmt::Formatter<W>) -> fmt::Result {
-        if self.bytes.is_empty() {
-            return f.write_str("-");
-        }
-        for byte in self.bytes {
-            write!(f, "{byte:02x}")?;
-        }
-        Ok(())
-    }
-}
-
 // A list in runs of equal numbers, each after a space: ` 7*0 3*5`.
 #[derive(Drop)]
 pub struct Runs<'a> {
