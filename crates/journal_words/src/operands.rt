@@ -146,6 +146,7 @@ impl<'a> Words<'a> {
 }
 
 // The word as a name: a letter a-z, and then letters a-z, digits and `_`.
+// An `if`, and no `from_utf8(word).ok().filter(..)`, which was tried: the clause stays unproved.
 pub fn name(word: &[u8]) -> Option<&str>
     ensures { option_map (λ x. x.now) result ≡ name_of word.now }
 {

@@ -19,6 +19,7 @@ fn finish(bytes: &[u8], list: &[u32], end: Progress) -> Result<usize, SheetFault
         return Err(Refusal::BytesAfterEnd.at(after));
     }
     let records = Records::new(bytes, &list[..end.count]);
+    // Matched, and no `map_err`, which was tried: the index is then asked for in a closure, apart from what `visit` ensures, and nothing is shorter.
     match records.visit((end.count - 1) as u16, 0) {
         Ok(_) => Ok(end.count),
         Err(stray) => Err(Refusal::WrongNumber.at(list[stray.number as usize] as usize)),

@@ -22,6 +22,7 @@ fn mark_kept(places: &Places, marks: &mut [u32])
 {
     clear(marks, places.capacity() as usize);
     let mut order = Order::new();
+    // By number: a handle is a place's number, and by it a place is a root and is walked from.
     for place in 0..places.capacity() {
         if is_root(places, place) {
             collect(places, place, marks, &mut order);

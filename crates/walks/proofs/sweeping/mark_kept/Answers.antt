@@ -12,15 +12,6 @@ loop-place-init c =
     let clean = cleared_zero t.capacity c.args.marks.now marks (rw c.capacity.ensures at c.clear.ensures) in
     subst (Rooted t 0 marks) (sym c.new-order.ensures) (rooted_none t marks clean)
 
-pub collect-requires : goal.collect-requires
-collect-requires c =
-    let p = c.loop-place.invariant in
-    record {
-      used = root_used c.args.places.now c.loop-place.place (sym c.if-is_root.ensures);
-      room = omega arith;
-      begun = (p.seen, p.collected);
-    }
-
 pub loop-place-preserved : goal.loop-place-preserved
 loop-place-preserved c =
     let t = c.args.places.now in
