@@ -15,6 +15,7 @@ use places::place::Content;
 use places::places::Places;
 
 // What a place adds at once: a leaf its word, a node zero. The children whose values a node adds are put on top of the frames.
+// Places and layout come apart, as a table lends them, from its store.
 fn visit<K: Value>(
     frames: &mut Frames,
     places: &Places,

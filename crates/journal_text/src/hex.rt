@@ -71,6 +71,8 @@ fn digits(text: &[u8]) -> &[u8]
     }
 }
 
+// Not by the library's `decode`: that tells an odd number of digits before a wrong one, and here the first wrong pair is told.
+
 // Whether the text is hex of whole bytes.
 pub fn check_hex(text: &[u8]) -> Result<(), Mistake>
     ensures { MatchResult result (λ _. is_ok (hex_of text.now) ≡ true) (λ e. hex_of text.now ≡ Err e) }
@@ -112,6 +114,7 @@ impl fmt::Display for InHex<'_> {
         if self.bytes.is_empty() {
             return f.write_str("-");
         }
+        // By `hex_digit`, of which the text is made: `{byte:02x}` would need a lemma that ties the library's digits to it.
         for byte in self.bytes {
             f.write_char(char::from(hex_digit(*byte / 16)))?;
             f.write_char(char::from(hex_digit(*byte)))?;

@@ -74,16 +74,16 @@ impl Verb {
     pub fn answers_handle(self) -> bool
         ensures { result ≡ bindable self }
     {
-        match self {
+        matches!(
+            self,
             Verb::Constant
-            | Verb::Mark
-            | Verb::Sum
-            | Verb::Difference
-            | Verb::Product
-            | Verb::Restrict
-            | Verb::Read => true,
-            _ => false,
-        }
+                | Verb::Mark
+                | Verb::Sum
+                | Verb::Difference
+                | Verb::Product
+                | Verb::Restrict
+                | Verb::Read
+        )
     }
 }
 

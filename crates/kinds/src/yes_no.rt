@@ -29,6 +29,7 @@ impl Value for YesNo {
         word < 2
     }
 
+    // Sum and product differ in one operator: a function over operators would be no shorter than both.
     fn sum(a: u32, b: u32) -> u32 {
         if Self::is_value(a) && Self::is_value(b) {
             a ^ b

@@ -9,6 +9,7 @@ mod calls;
 #[derive(Clone, Copy, Debug, PartialEq, Eq)]
 pub struct Layout {
     size: u8,
+    // Whole arrays beside the size, and no ArrayVec: a layout is copied, and a level or a mark past the size stands for itself.
     /// What stands on each level.
     levels: [Level; 32],
     /// The level of each mark.

@@ -145,8 +145,6 @@ pub fn run(rt: &HostRuntime, journal: &[u8]) -> Result<(), Failure> {
     };
     let lane = Lane::new(rt);
     let mut replay = Replay { lane, reader };
-    match replay.sessions() {
-        Ok(()) => Ok(()),
-        Err(failure) => report(rt, replay.reader.line, failure),
-    }
+    let ended = replay.sessions();
+    ended.or_else(|failure| report(rt, replay.reader.line, failure))
 }

@@ -20,9 +20,7 @@ impl Frame<'_> {
         };
         let length = u16::from_le_bytes([length_low, length_high]) as usize;
         let kind = u16::from_le_bytes([kind_low, kind_high]);
-        let Some(body) = rest.get(..length) else {
-            return Err(ByteFault { place });
-        };
+        let body = rest.get(..length).ok_or(ByteFault { place })?;
         Ok(Frame {
             kind: RecordKind::of_code(kind),
             body,

@@ -7,6 +7,7 @@ use crate::kind::RecordKind;
 use refusals::{Refusal, SheetFault};
 
 /// What a table asks of a sheet.
+// That there are fewer than 256 types is no field: it follows from what a table asks (`Asks`), and a field would ask it of whoever makes one.
 #[derive(Clone, Copy)]
 pub struct Expected<'a> {
     /// The head record of the table's kind and layout.

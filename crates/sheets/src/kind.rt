@@ -14,6 +14,7 @@ impl RecordKind {
     ghost use Rattle.sheets.specs.Codes.{code, Coded};
 
     /// The kind's number in a frame.
+    // Named, and no `From` for `u16`: what is written is the number, and `code` says so at the call.
     pub fn code(self) -> u16
         ensures { result ≡ code self }
     {
@@ -21,6 +22,7 @@ impl RecordKind {
     }
 
     /// The kind that a number in a frame stands for, if it stands for one.
+    // An Option and no `TryFrom`: a number that is no kind tells no error of its own, since a kind out of turn is refused alike.
     pub fn of_code(number: u16) -> Option<RecordKind>
         ensures { Coded number result }
     {

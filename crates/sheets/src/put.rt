@@ -5,6 +5,9 @@ ghost use Rattle.sheets.specs.Codes.{code};
 
 use crate::kind::RecordKind;
 
+// The output and a place in it, and no cursor over both: contracts say at which place of the output which bytes stand, and would name a cursor's two
+// fields each time.
+
 // Bytes, one after another. Answers the place after them.
 fn put_bytes(out: &mut [u8], place: usize, bytes: &[u8]) -> usize
     requires { place + length bytes.now ≤ length out.old }

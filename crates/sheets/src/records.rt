@@ -94,6 +94,7 @@ impl<'a> Records<'a> {
     pub fn contains(&self, wanted: Item) -> bool
         ensures { Known (length self.now) wanted → result ≡ holds (among (diagram_of self.now wanted) self.now) }
     {
+        // By number: a record is asked for by its number.
         (0..self.len()).any(|i| self.holds(i, wanted))
     }
 }

@@ -27,7 +27,7 @@ impl Records<'_> {
     }
 
     // Whether the drop rule removes a node, on a level whose type has that number.
-    // This crate knows a layout by its bytes in the head record, so a type is its number here.
+    // That sheets know no layout, only slices of marks and of types as the head record has them, is a rule of the project: a type is its number here.
     fn drops<V: Value>(&self, form: u8, low: u16, high: u16) -> bool
         requires { (low < length self.now) × (high < length self.now) }
         ensures { (t : Decomposition) → Distinct self.now → form ≡ type_code t → result ≡ holds (same (nth self.now high) (spare V.Value.kind t (nth self.now low))) }

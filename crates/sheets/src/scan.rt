@@ -11,7 +11,8 @@ use crate::records::Records;
 use kinds::Value;
 use refusals::SheetFault;
 
-/// How far a sheet is read: up to a byte place, before which stand so many leaves and nodes.
+/// How far a sheet is read: up to a byte place, before which stand so many leaves and nodes. The list is the caller's, and longer: it is lent anew to each
+/// step, so neither the count nor the sheet can keep it.
 #[derive(Clone, Copy)]
 pub struct Progress {
     pub place: usize,

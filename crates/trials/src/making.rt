@@ -7,7 +7,7 @@ use stores::last::Last;
 use stores::own::Own;
 use tables::Open;
 
-// The number of a refusal, 0 where the call is accepted.
+// The number of a refusal, 0 where the call is accepted: the refusals' numbers, which trials name, begin at 1.
 pub(crate) fn refused<T: Drop>(answer: Result<T, Refusal>) -> u8 {
     answer.err().map_or(0, Refusal::number)
 }

@@ -1,8 +1,8 @@
 ghost use Rattle.std.specs.Prelude.{◌≡◌, ◌≤◌, ◌++◌, length, drop, replicate};
 
 /// The entries of a lent walk list that a call works with. They become zero when the call ends, on whichever way.
-// Each call that is lent a list tests its length and takes the first entries itself: no proof is found of what the list is after a function that answers
-// a part of it, or a guard over a part, only where it is long enough.
+// Each call that is lent a list tests its length and takes the first entries itself. One function for it was tried: no proof is found of what the list is
+// after a function that answers a part of it, or a guard over a part, only where it is long enough.
 pub struct Cleared<'a> {
     pub list: &'a mut [u32],
 }

@@ -1,4 +1,5 @@
 use arrayvec::ArrayVec;
+use places::places::SLOTS;
 
-/// The places that a walk has come to, in the order in which it left them. A table has no more than 4,096 places.
-pub type Order = ArrayVec<u16, 4096>;
+/// The places that a walk has come to, in the order in which it left them. It has room for every place of a table.
+pub type Order = ArrayVec<u16, SLOTS>;

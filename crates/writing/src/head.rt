@@ -31,6 +31,7 @@ fn push_levels<F: Fn(u8) -> u8>(head: &mut Head, levels: u8, byte: F)
     ensures bytes { (f : ℕ → ℕ) → ((level x : ℕ) → F.post byte level x → x ≡ f level) → head_bytes head.new ≡ head_bytes head.old ++ by_level levels 0 f }
     ensures len { length (head_bytes head.new) ≡ length (head_bytes head.old) + levels }
 {
+    // Pushed one by one: what an ArrayVec is extended by may be out of room, and this cannot fail.
     for level in 0..levels {
         head.push(byte(level));
     }
