@@ -50,7 +50,7 @@ true_T : (b : Bool) → b ≡ true → T b
 true_T true e = tt
 true_T false e = let z : ◌≡◌ {A = ℕ} 0 1 = ap (λ c. cond c 1 0) e in absurd (omega arith)
 
-holds_no : {P : Type 0} (s : Dec P) → ¬ P → holds s ≡ false
+pub holds_no : {P : Type 0} (s : Dec P) → ¬ P → holds s ≡ false
 holds_no (yes p) n = absurd (n p)
 holds_no (no _) n = refl
 
