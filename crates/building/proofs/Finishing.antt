@@ -3,6 +3,7 @@ use Rattle.std.proofs.Common.{◌≡◌, ℕ, ◌≤◌, true, false, List, [], 
 use mathlib.Core.List.Memᴰ
 use mathlib.Core.List.{Memᴰ}
 use Rattle.std.proofs.lemmas.Bool.{false≢true}
+use Rattle.std.proofs.lemmas.Option.{same_Some}
 use Rattle.diagrams.specs.Kinds.{Kind}
 use Rattle.diagrams.specs.Layouts.{Decomposition, shannon, positive, negative, Layout}
 use Rattle.diagrams.specs.Diagrams.{Lawful, Diagram, leaf, node, Good, same, spare, make}
@@ -180,9 +181,6 @@ module _ (K : Kind) (L : Layout) (task : Task) where
       hit = λ g long. absurd (false≢true (sym long ∙ short));
     }
 
-some_one : {g h : ℕ} → Some g ≡ Some h → g ≡ h
-some_one e = cc
-
 -- An entry under a call's key.
 module _ {K : Kind} {L : Layout} (m : Model) (task : Task) (key : Key) (h : ℕ) (sound : Sound K L m) (fit : Fit K L 0 task) (keyed : Keyed m task key)
     (found : m.entries key ≡ Some h) where
@@ -199,7 +197,7 @@ module _ {K : Kind} {L : Layout} (m : Model) (task : Task) (key : Key) (h : ℕ)
     worked = worked_idle m (task ∷ []) sound (λ d n.
         (sound.right key h found).needed d (subst (λ z. Needs K L z d) (Memᴰ.eq_of_singleton n.1 ∙ sym its_call) n.2));
     stored = λ _. found;
-    hit = λ g _ e. (some_one (sym found ∙ e), refl, λ k. refl);
+    hit = λ g _ e. (same_Some _ _ (sym found ∙ e), refl, λ k. refl);
   }
 
 -- Work inside a call: calls inside it were worked, from a table m to k.

@@ -15,7 +15,7 @@ use Rattle.histories.proofs.Sound.{Sound}
 use Rattle.histories.proofs.Standing.{free?, same_content, same_count}
 use Rattle.histories.proofs.Keeping.{Moves, gains_moves}
 use Rattle.histories.proofs.Rightness.{keyed_moves}
-use Rattle.histories.proofs.Inner.{inside_needs}
+use Rattle.histories.proofs.Inner.{inside_inside, inside_needs}
 
 -- What came into use in two turns.
 module _ {m k : Model} {P R : Diagram → Type 0} (one : Gains m k P) (to : (d : Diagram) → P d → R d) where
@@ -51,11 +51,6 @@ module _ {m k : Model} {P R : Diagram → Type 0} (one : Gains m k P) (to : (d :
     λ d q. elim (o.2 d q) [ inl old ↦ earlier d old | inr new ↦ inr (more d new) ],
     omega (arith, o.3, one.room),
   )
-
-module _ {K : Kind} {L : Layout} where
-  inside_inside : {task next part : Task} → Inside K L task next → Inside K L next part → Inside K L task part
-  inside_inside {part = part} (itself e) j = subst (λ t. Inside K L t part) e j
-  inside_inside (deeper m i) j = deeper m (inside_inside i j)
 
 module _ (K : Kind) (L : Layout) where
   -- A call needs its answer.

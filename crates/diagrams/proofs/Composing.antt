@@ -39,7 +39,7 @@ module _ {K : Kind} {L : Layout} (ok : Lawful K L) where
   value : (a : Diagram) → Good K L 0 a → (w : ℕ) → T (K.value (rule K L a w))
   value = rule_value ok 0
 
-  zero_sum : (u : ℕ) → T (K.value u) → K.sum K.zero u ≡ u
+  pub zero_sum : (u : ℕ) → T (K.value u) → K.sum K.zero u ≡ u
   zero_sum u p = laws.arithmetic.sum_comm _ _ laws.arithmetic.zero_value p ∙ laws.arithmetic.sum_zero u p
 
   difference_zero : (u : ℕ) → T (K.value u) → K.difference u K.zero ≡ u

@@ -5,7 +5,8 @@ use mathlib.Core.List.{Memᴰ}
 use Rattle.diagrams.specs.Diagrams.{Diagram, same}
 use Rattle.diagrams.specs.Sizes.{among, once, different, Distinct}
 
-abbrev Within : List Diagram → List Diagram → Type 0
+-- What stands in the one list stands in the other.
+abbrev pub Within : List Diagram → List Diagram → Type 0
 Within ys xs = (d : Diagram) → Memᴰ d ys → Memᴰ d xs
 
 pub once_within : (ds : List Diagram) → Within (once ds) ds

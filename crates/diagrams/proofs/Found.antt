@@ -2,6 +2,7 @@
 use Rattle.std.proofs.Common.{◌≡◌, ℕ, zero, suc, ◌+◌, ◌*◌, ◌/◌, ◌%◌, ◌^◌, ◌<◌, ◌≤◌, Bool, true, false, cond, ◌&&◌, ◌||◌, T, eqb, ltb, leb, ◌⊎◌, List, [], ◌∷◌, ◌++◌, length, get_or, drop, sym, refl, ap, ◌∙◌, subst, ap₂, inl, inr, add-zero, mod-eq_of_lt, arith, drop-cons}
 use Rattle.std.proofs.lemmas.Nat.{div-mul-add, mod-mul-add, div_below, mod_below, div-add-mod'}
 use Rattle.std.proofs.lemmas.Bool.{ltb-true, ltb-false, lt-ltb, and_parts, leb-false, eqb-true, eqb-false, le-ltb, lt-leb, eq-eqb, ne_eqb, cases_Bool, or_parts, or_from, not-false, not_from_true}
+use Rattle.std.proofs.lemmas.Float.{T_from_true}
 use Rattle.std.proofs.ByRecursion.{All-get_or}
 use Rattle.std.specs.List.{AllByRecursion}
 use Rattle.diagrams.specs.Kinds.{Kind}
@@ -46,11 +47,7 @@ T_true : (b : Bool) → T b → b ≡ true
 T_true true t = refl
 T_true false t = absurd t
 
-true_T : (b : Bool) → b ≡ true → T b
-true_T true e = tt
-true_T false e = let z : ◌≡◌ {A = ℕ} 0 1 = ap (λ c. cond c 1 0) e in absurd (omega arith)
-
-holds_no : {P : Type 0} (s : Dec P) → ¬ P → holds s ≡ false
+pub holds_no : {P : Type 0} (s : Dec P) → ¬ P → holds s ≡ false
 holds_no (yes p) n = absurd (n p)
 holds_no (no _) n = refl
 
@@ -225,7 +222,7 @@ module _ (K : Kind) (L : Layout) (limit : ℕ) (seen : List Diagram) where
         let same-leaf = part_same _ d q.1 in
         subst (Stood bytes) same-leaf (record {
           spelled = leaf_bytes bytes all (omega arith) s k;
-          good = true_T _ (not-false _ q.0.1.0);
+          good = T_from_true _ (not-false _ q.0.1.0);
           new = no_holds (among (leaf (four_at 4 bytes)) seen) q.0.1.1.0;
           children = tt;
           room = leb-false _ _ q.0.0;

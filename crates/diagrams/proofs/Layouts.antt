@@ -1,4 +1,4 @@
--- Beginning, exchange and a new type give valid layouts; a mark as the code reads it. Assumes nothing.
+-- Beginning, exchange and a new type give valid layouts. Assumes nothing.
 use Rattle.std.proofs.Common.{◌≡◌, ℕ, ◌/◌, ◌^◌, ◌<◌, refl, ap, ◌∙◌, arith}
 use lib.Bits.{bit_and}
 use Rattle.std.proofs.lemmas.Nat.{and_mask}
@@ -39,7 +39,3 @@ retyped_valid L i t s = record {
   level_mark = s.level_mark;
   mark_level = s.mark_level;
 }
-
--- `(fruit >> i) & 1`
-pub shifted_bit : (i w : ℕ) → bit_and (w / 2 ^ i) 1 ≡ bit i w
-shifted_bit i w = and_mask (w / 2 ^ i) 1

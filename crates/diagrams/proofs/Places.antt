@@ -4,7 +4,7 @@ use Rattle.diagrams.specs.Diagrams.{Diagram, leaf, node}
 use Rattle.diagrams.specs.Places.{Content, free, leaf_word, node_at, Stands, Unshared}
 
 -- A place that holds a leaf or a node is in use.
-leaf_used : (c : Content) (v : ℕ) → c ≡ leaf_word v → ¬ (c ≡ free)
+pub leaf_used : (c : Content) (v : ℕ) → c ≡ leaf_word v → ¬ (c ≡ free)
 leaf_used c v e f = let z : ◌≡◌ {A = ℕ} 0 1 = cc in omega arith
 
 node_used : (c : Content) (l x y : ℕ) → c ≡ node_at l x y → ¬ (c ≡ free)

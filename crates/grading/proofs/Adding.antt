@@ -5,6 +5,7 @@ use Rattle.diagrams.specs.Layouts.{Decomposition, shannon, positive, negative, L
 use Rattle.diagrams.specs.Diagrams.{Lawful, Diagram, leaf, node, join, rule, Good}
 use Rattle.diagrams.specs.Places.{Content, Stands}
 use Rattle.diagrams.proofs.Nodes.{rule_value, good_up}
+use Rattle.diagrams.proofs.Composing.{zero_sum}
 use Rattle.places.specs.declared.places.Places.{Places}
 use Rattle.places.specs.Tables.{holds}
 use Rattle.grading.specs.Turns.{chosen, opened, worth}
@@ -34,9 +35,6 @@ module _ (K : Kind) (L : Layout) (ok : Lawful K L) (t : Places) (fruit : ℕ) wh
   sums_value : (hs : List ℕ) (v : ℕ) → Sums K L t fruit hs v → T (K.value v)
   sums_value [] v s = rw s laws.arithmetic.zero_value
   sums_value (h ∷ hs) v s = rw s.5 (laws.arithmetic.sum_value _ _ (rule_value ok 0 s.0 s.3 fruit) (sums_value hs s.1 s.4))
-
-  zero_sum : (a : ℕ) → T (K.value a) → K.sum K.zero a ≡ a
-  zero_sum a p = laws.arithmetic.sum_comm _ _ laws.arithmetic.zero_value p ∙ laws.arithmetic.sum_zero a p
 
   -- The children that are chosen add what the node comes to.
   chosen_sums : (k : Decomposition) (c : ℕ) → c < 2 → (a b : Diagram) (x y : ℕ) → Stands (holds t) a x → Stands (holds t) b y
@@ -85,7 +83,7 @@ module _ (K : Kind) (L : Layout) (ok : Lawful K L) (t : Places) (fruit : ℕ) wh
             sums =
                 chosen_sums (L.type l) (bit (L.mark l) fruit) (omega arith) a b p.0 p.1 p.3 p.4 (good_up ok 0 (suc l) a (omega arith) g.2)
                 (good_up ok 0 (suc l) b (omega arith) g.3) hs s.1 s.4;
-            whole = e ∙ sym (zero_sum added valued);
+            whole = e ∙ sym (zero_sum ok added valued);
             value = laws.arithmetic.zero_value;
           }
           )
@@ -100,7 +98,7 @@ module _ (K : Kind) (L : Layout) (ok : Lawful K L) (t : Places) (fruit : ℕ) wh
           record {
             rest = K.sum a K.zero;
             sums = (d, K.zero, p, g, refl, refl);
-            whole = sym (ap (K.sum K.zero) (laws.arithmetic.sum_zero a v) ∙ zero_sum a v);
+            whole = sym (ap (K.sum K.zero) (laws.arithmetic.sum_zero a v) ∙ zero_sum ok a v);
             value = laws.arithmetic.zero_value;
           }
 

@@ -6,13 +6,10 @@ use Rattle.diagrams.specs.Kinds.{Kind}
 use Rattle.diagrams.specs.Layouts.{Layout}
 use Rattle.diagrams.specs.Diagrams.{Diagram}
 use Rattle.diagrams.specs.Sheets.{visited, records, header}
+use Rattle.diagrams.proofs.Counting.{Within}
 use Rattle.histories.specs.Tables.{Model}
 use Rattle.histories.specs.Steps.{Fills}
 use Rattle.histories.proofs.SheetsAccepted.{outnumber_more}
-
--- What stands in the one list stands in the other.
-abbrev Within : List Diagram → List Diagram → Type 0
-Within ys xs = (d : Diagram) → Memᴰ d ys → Memᴰ d xs
 
 more_within : (a b : Diagram) (ys xs : List Diagram) → a ≡ b → Within ys xs → Within (a ∷ ys) (b ∷ xs)
 more_within a b ys xs e w d m = elim (Memᴰ.cases_cons m) [ inl p ↦ Memᴰ.head (p ∙ e) | inr q ↦ Memᴰ.tail (w d q) ]

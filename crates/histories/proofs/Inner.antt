@@ -13,7 +13,8 @@ use Rattle.diagrams.proofs.Listed.{all_mem}
 use Rattle.diagrams.proofs.Nodes.{good_up}
 
 module _ {K : Kind} {L : Layout} where
-  inside_inside : {task next part : Task} → Inside K L task next → Inside K L next part → Inside K L task part
+  -- A call inside a call inside is inside.
+  pub inside_inside : {task next part : Task} → Inside K L task next → Inside K L next part → Inside K L task part
   inside_inside {part = part} (whole e) j = subst (λ t. Inside K L t part) e j
   inside_inside (deeper m i) j = deeper m (inside_inside i j)
 

@@ -1,6 +1,7 @@
 -- What is true of every history, and of any two. Assumes nothing.
 use Rattle.std.proofs.Common.{◌≡◌, ℕ, ◌↔◌, List, [], ◌∷◌, length, take, sym, refl, ap, ◌∙◌, subst, ap₂, inl, inr, arith}
 use lib.Seq.{take-append-le}
+use Rattle.std.proofs.Math.Seq.{take-length}
 use Rattle.diagrams.specs.Kinds.{Kind}
 use Rattle.diagrams.specs.Layouts.{Layout}
 use Rattle.diagrams.specs.Diagrams.{Lawful, Diagram, rule}
@@ -18,10 +19,6 @@ use Rattle.histories.proofs.Keeping.{step_stands}
 use Rattle.histories.proofs.Reachability.{reachable_sound, kept_step}
 use Rattle.histories.proofs.Booked.{Fits, made_fits, step_fits}
 use Rattle.histories.proofs.SheetsAccepted.{gives_refuses, gives_same, reads_step}
-
-whole : (xs : List ℕ) → take (length xs) xs ≡ xs
-whole [] = refl
-whole (x ∷ xs) = ap (λ t. x ∷ t) (whole xs)
 
 module _ (K : Kind) (L : Layout) where
   since_reachable : {m n : Model} {log : Log} → Since K m log n → Reachable K L m → Reachable K L n
@@ -79,7 +76,7 @@ module _ (K : Kind) (L : Layout) where
               subst (λ c. Does K L m w.asked c w.answer w.after) w.writes r.does in
               let e = does.0 in
               let size : w.many ≡ length (sheet K L e) = gives_same (sym w.accepted ∙ does.1.1) in
-              w.written ∙ ap₂ take size does.1.2 ∙ take-append-le (length (sheet K L e)) (sheet K L e) _ (omega arith) ∙ whole (sheet K L e)
+              w.written ∙ ap₂ take size does.1.2 ∙ take-append-le (length (sheet K L e)) (sheet K L e) _ (omega arith) ∙ take-length (sheet K L e)
               ∙ ap (sheet K L) (stands_for_one (content m) e d h does.1.0 p)
           | inr r ↦ absurd (gives_refuses (sym w.accepted ∙ r.told))
         ]

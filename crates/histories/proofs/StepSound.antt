@@ -8,6 +8,7 @@ use Rattle.diagrams.specs.Layouts.{Layout}
 use Rattle.diagrams.specs.Diagrams.{Lawful, Diagram, Good}
 use Rattle.diagrams.specs.Tasks.{Task, Fit}
 use Rattle.diagrams.specs.Places.{Content, free, leaf_word, Place, vacant, Unshared}
+use Rattle.diagrams.proofs.Places.{leaf_used}
 use Rattle.histories.specs.Tables.{Model, capacity, place, content, count, Live, StandsFor}
 use Rattle.histories.specs.Requests.{Call, build, read, hold, let_go, sweep, look, release, reopen, Asked, Answer}
 use Rattle.histories.specs.Steps.{Faultless, PlacesStay, EntriesStay, Gains, Counted, Swept, Needed, Worked, faults, Does, Step, from_zero, from_one}
@@ -18,9 +19,6 @@ use Rattle.histories.proofs.Meanings.{means_fit}
 use Rattle.histories.proofs.Inner.{inside_needs, inside_fit, needs_good, part_good}
 use Rattle.histories.proofs.Keeping.{same_moves, stay_moves, counted_content, gains_moves, swept_place, swept_stands}
 use Rattle.histories.proofs.Rightness.{AllRight, right_moves, entries_right, none_right}
-
-leaf_live : (c : Content) (v : ℕ) → c ≡ leaf_word v → ¬ (c ≡ free)
-leaf_live c v e f = let z : ◌≡◌ {A = ℕ} 0 1 = cc in omega arith
 
 module _ {K : Kind} {L : Layout} (m n : Model) (sound : Sound K L m) where
   -- Places that hold what they held, with other counts or entries.
@@ -60,8 +58,8 @@ module _ {K : Kind} {L : Layout} (m n : Model) (sound : Sound K L m) where
   gains_sound P g goods right = record {
     least = omega (arith, g.room, sound.least);
     most = omega (arith, g.room, sound.most);
-    zero = same_content m n 0 (g.kept 0 (leaf_live _ _ sound.zero)) ∙ sound.zero;
-    one = same_content m n 1 (g.kept 1 (leaf_live _ _ sound.one)) ∙ sound.one;
+    zero = same_content m n 0 (g.kept 0 (leaf_used _ _ sound.zero)) ∙ sound.zero;
+    one = same_content m n 1 (g.kept 1 (leaf_used _ _ sound.one)) ∙ sound.one;
     good = λ h l.
         let r = g.only h l in
         (r.0, elim r.2 [ inl u ↦ stands_good m sound r.0 u.0 u.1 | inr u ↦ goods r.0 u ], r.1);

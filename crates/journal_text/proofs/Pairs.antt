@@ -75,8 +75,3 @@ pub digits_written : (bs : List ℕ) (i h l : ℕ) → i < length bs → h ≡ h
 digits_written bs i h l lt high low =
     rw (high, low, encode_ascii (hex_digit (get_or bs i 0 / 16)) (hex_digit_ascii _), encode_ascii (hex_digit (get_or bs i 0)) (hex_digit_ascii _), append_assoc)
     (sym (digits_push bs i lt))
-
--- the digits of all the bytes are their text
-pub digits_all : (bs : List ℕ) (i : ℕ) → length bs ≤ i → 0 < length bs → digits (take i bs) ≡ hex_text bs
-digits_all [] i h some = absurd (omega arith)
-digits_all (b ∷ bs) i h some = ap digits (take_all i (b ∷ bs) h)

@@ -72,10 +72,6 @@ module _ {before after : Places} {c : Content} {h : ℕ} (n : Given before after
   pub given_only : (g : ℕ) → Used after g → Used before g ⊎ (g ≡ h)
   given_only g u = grind (arith, common_steps, n.others g)
 
-  -- The place that is given held the content already, or was free.
-  pub given_was : (holds before h ≡ c) ⊎ (place before h ≡ vacant)
-  given_was = grind (arith, common_steps, n.extends.same h, n.here, unused_vacant before h)
-
 -- Filling extends a table, whatever it answers.
 pub filling_extends : (before after : Places) (c : Content) (r : Option ℕ) → Filling before after c r → Extends before after
 filling_extends before after c None n = subst (Extends before) (sym n.still) (stays before)

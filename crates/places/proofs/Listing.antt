@@ -12,10 +12,3 @@ list_length t = grind (arith, common_steps, t.few, t.whole)
 -- Each place is the list's, also past its end, where the list has the free one.
 pub list_place : (t : Places) (h : ℕ) → get_or (list_of t) h vacant ≡ place t h
 list_place t h = grind (arith, common_steps, list_length t, past_vacant t h)
-
-pub list_holds : (t : Places) (h : ℕ) → (get_or (list_of t) h vacant).content ≡ holds t h
-list_holds t h = ap (λ (p : Place). p.content) (list_place t h)
-
--- Tables of one list have the same places.
-pub list_tells : (t u : Places) → list_of t ≡ list_of u → (t.capacity ≡ u.capacity) × ((h : ℕ) → place t h ≡ place u h)
-list_tells t u e = (cc (list_length t, list_length u), λ h. cc (list_place t h, list_place u h))

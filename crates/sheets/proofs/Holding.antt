@@ -13,7 +13,7 @@ use Rattle.diagrams.specs.Sizes.{Distinct, among}
 use Rattle.diagrams.specs.Sheets.{number, record_at}
 use Rattle.diagrams.specs.Reading.{bad, fine, unless, holds, kind_of, stated, cut, frame_rules, nth, Children}
 use Rattle.diagrams.proofs.Visits.{Mem, children_more, mem_nth, number_within, number_more, nth_number, same_record, alike_records}
-use Rattle.diagrams.proofs.Found.{two_told, four_told, not_fine}
+use Rattle.diagrams.proofs.Found.{two_told, four_told, not_fine, holds_no}
 use Rattle.sheets.specs.declared.record.Item.{Item}
 use Rattle.sheets.specs.declared.record.Item.TheVariants.{Leaf, Node, End}
 use Rattle.sheets.specs.Frames.{item_of, Framed}
@@ -146,10 +146,6 @@ known_more m n (End e) h k = k
 pub holds_yes : {P : Type 0} (s : Dec P) → P → holds s ≡ true
 holds_yes (yes p) q = refl
 holds_yes (no n) q = absurd (n q)
-
-pub holds_no : {P : Type 0} (s : Dec P) → ¬ P → holds s ≡ false
-holds_no (yes p) n = absurd (n p)
-holds_no (no _) n = refl
 
 -- A record that holds what is wanted has its diagram, and no other record has.
 pub same_there : (seen : List Diagram) → Distinct seen → (i : ℕ) → i < length seen → (a wanted : Item) → nth seen i ≡ diagram_of seen a → Known i a
