@@ -80,9 +80,6 @@ stands_under K L valid t l d h small g p = record { used = stands_used (holds t)
     level (leaf v) good s = omega (arith, ap depth s)
     level (node m a b) good s = omega (arith, ap depth s.2, good.0)
 
-pub placed_none : (t : Places) → Placed t t [] []
-placed_none t = record { extends = stays t; stand = tt; only = λ h u. inl u }
-
 -- One record more, in the place that it was given.
 pub placed_more : {t u v : Places} {ds : List Diagram} {hs : List ℕ} → Placed t u ds hs → (d : Diagram) → Children d ds → (h : ℕ)
     → Given u v (wanted hs ds d) h → Placed t v (ds ++ (d ∷ [])) (hs ++ (h ∷ []))
