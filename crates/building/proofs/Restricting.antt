@@ -1,5 +1,5 @@
 -- Restrictions: answered at once, by a sum, or from the children. Assumes nothing.
-use Rattle.std.proofs.Common.{◌≡◌, ℕ, zero, suc, ◌<◌, ◌≤◌, Bool, true, false, List, [], ◌∷◌, Some, None, Option, sym, refl, ap, ◌∙◌, subst, arith}
+use Rattle.std.proofs.Common.{◌≡◌, ℕ, ◌<◌, ◌≤◌, Bool, true, false, List, [], ◌∷◌, Some, None, Option, sym, refl, ap, ◌∙◌, subst, arith}
 use mathlib.Core.List.{Memᴰ}
 use Prim.Native.Nat.{compare, Ordering}
 use Rattle.std.proofs.lemmas.Bool.{false≢true}
@@ -18,40 +18,41 @@ use Rattle.histories.specs.Stores.{Key, Entries}
 use Rattle.histories.specs.Tables.{Phase, Model}
 use Rattle.histories.specs.Steps.{Keyed}
 use Rattle.histories.proofs.Sound.{Sound}
+use Rattle.layouts.specs.declared.turn.Turn.{Turn}
+use Rattle.layouts.specs.Turns.{children, chosen as taken}
 use Rattle.places.specs.declared.places.Places.{Places}
 use Rattle.places.specs.Contents.{depth, in_use}
 use Rattle.places.specs.Tables.{holds, Used, Under, Extends, Trusted}
 use Rattle.places.proofs.Extending.{stays, then, stands_still, under_higher, node_under}
-use Rattle.building.specs.declared.restrict.Left.{Left}
-use Rattle.building.specs.declared.restrict.Left.TheVariants.{Child, Sum}
 use Rattle.building.specs.Work.{model}
 use Rattle.building.specs.Operations.{restrict_key}
 use Rattle.building.specs.Parts.{NoHigher, Joined}
 use Rattle.building.specs.Shortcuts.{floor}
 use Rattle.building.specs.Calls.{BroughtBack, Finished, Combined, Closed}
-use Rattle.building.specs.Restricting.{left_of, Restricted}
+use Rattle.building.specs.Restricting.{Restricted}
 use Rattle.building.proofs.Seeing.{seen_stands, stands_seen}
 use Rattle.building.proofs.Working.{worked_within}
 use Rattle.building.proofs.Finishing.{none_held, PartsHeld, put_there, put_joined, worked_plain, finished_short, found_stands, found_answered, Way, way_start, way_step, way_stop, way_end}
 use Rattle.building.proofs.Beginning.{good_of}
 use Rattle.building.proofs.Splitting.{under_good}
 
-module _ (K : Kind) (L : Layout) (i c h : ℕ) where
-  -- The handle is a node of the mark, and the sum of its children x and y answers.
-  pub record Summed (t : Places) (x y : ℕ) : Type 0 where
-    pub node : holds t h ≡ node_at (L.level i) x y
-    pub left : left_of (L.type (L.level i)) c x y ≡ Sum x y
+-- The handle is a node of the mark, and the sum of its children x and y answers.
+pub record Summed (L : Layout) (i : ℕ) (b : Bool) (h : ℕ) (t : Places) (x y : ℕ) : Type 0 where
+  pub node : holds t h ≡ node_at (L.level i) x y
+  pub both : taken (L.type (L.level i)) b x y ≡ x ∷ y ∷ []
 
+-- At a node of the mark: the only child that is left answers, or the sum of the two.
+abbrev pub AtNode : Kind → Layout → ℕ → Bool → ℕ → Places → Entries → List ℕ → Type 0
+AtNode K L i b h t f [] = Unit {0}
+AtNode K L i b h t f (n ∷ []) = Restricted K L i (from_bool b) h t t f f (Some n)
+AtNode K L i b h t f (x ∷ y ∷ ns) = Summed L i b h t x y
+
+module _ (K : Kind) (L : Layout) (i c h : ℕ) where
   -- The handle is a node at level l, above the mark, with children x and y, and the store has no answer to trust.
   pub record Above (t : Places) (f : Entries) (l x y : ℕ) : Type 0 where
     pub node : holds t h ≡ node_at l x y
     pub higher : l < L.level i
     pub missed : (n : ℕ) → f (restrict_key h i c) ≡ Some n → Under t l n → ⊥
-
-  -- At a node of the mark: the child answers that is left, or the sum of the children is.
-  abbrev pub AtNode : Places → Entries → Left → Type 0
-  AtNode t f (Child n) = Restricted K L i c h t t f f (Some n)
-  AtNode t f (Sum x y) = Summed t x y
 
 -- A node's diagram, by its children.
 parts_of : (t : Places) (d : Diagram) (h l x y : ℕ) → Stands (holds t) d h → holds t h ≡ node_at l x y
@@ -196,33 +197,33 @@ children_under t h l x y e =
     (under_higher (omega (arith, ap depth e)) n.1, under_higher (omega (arith, ap depth e)) n.2)
 
 module _ (K : Kind) (L : Layout) (i h : ℕ) (t : Places) (f : Entries) (inside : i < L.size) where
-  choice : (x y : ℕ) → holds t h ≡ node_at (L.level i) x y → (s : Decomposition) (c : ℕ) → c < 2 → L.type (L.level i) ≡ s
-      → (Lawful K L → (d : Diagram) → Good K L 0 d → Stands (holds t) d h → AtMark K L i c t s x y d) → AtNode K L i c h t f (left_of s c x y)
-  choice x y e shannon zero small q facts = one_left K L i zero h t f inside small (children_under t h _ x y e).0 facts (λ a b sa sb. (sa, refl))
-  choice x y e shannon (suc c) small q facts = one_left K L i (suc c) h t f inside small (children_under t h _ x y e).1 facts (λ a b sa sb. (sb, refl))
-  choice x y e positive zero small q facts = one_left K L i zero h t f inside small (children_under t h _ x y e).0 facts (λ a b sa sb. (sa, refl))
-  choice x y e positive (suc c) small q facts = record { node = e; left = ap (λ s. left_of s (suc c) x y) q }
-  choice x y e negative zero small q facts = record { node = e; left = ap (λ s. left_of s 0 x y) q }
-  choice x y e negative (suc c) small q facts = one_left K L i (suc c) h t f inside small (children_under t h _ x y e).0 facts (λ a b sa sb. (sa, refl))
+  choice : (x y : ℕ) → holds t h ≡ node_at (L.level i) x y → (s : Decomposition) (b : Bool) → L.type (L.level i) ≡ s
+      → (Lawful K L → (d : Diagram) → Good K L 0 d → Stands (holds t) d h → AtMark K L i (from_bool b) t s x y d) → AtNode K L i b h t f (taken s b x y)
+  choice x y e shannon false q facts = one_left K L i 0 h t f inside (constant_small false) (children_under t h _ x y e).0 facts (λ a b sa sb. (sa, refl))
+  choice x y e shannon true q facts = one_left K L i 1 h t f inside (constant_small true) (children_under t h _ x y e).1 facts (λ a b sa sb. (sb, refl))
+  choice x y e positive false q facts = one_left K L i 0 h t f inside (constant_small false) (children_under t h _ x y e).0 facts (λ a b sa sb. (sa, refl))
+  choice x y e positive true q facts = record { node = e; both = ap (λ s. taken s true x y) q }
+  choice x y e negative false q facts = record { node = e; both = ap (λ s. taken s false x y) q }
+  choice x y e negative true q facts = one_left K L i 1 h t f inside (constant_small true) (children_under t h _ x y e).0 facts (λ a b sa sb. (sa, refl))
 
-  -- What the code chooses at the mark's level.
-  pub at_node : (c : ℕ) → c < 2 → (l x y : ℕ) → node_at l x y ≡ holds t h → l ≡ L.level i → (r : Left) (s : Decomposition)
-      → r ≡ left_of s c x y → s ≡ L.type l → AtNode K L i c h t f r
-  at_node c small l x y e at r s told typed =
+  -- What the code's turn leaves at the mark's level.
+  pub at_node : (b : Bool) (l x y : ℕ) → node_at l x y ≡ holds t h → l ≡ L.level i → (turn : Turn) (s : Decomposition)
+      → ((x y : ℕ) → children turn x y ≡ taken s b x y) → s ≡ L.type l → AtNode K L i b h t f (children turn x y)
+  at_node b l x y e at turn s told typed =
       let here : holds t h ≡ node_at (L.level i) x y = sym e ∙ ap (λ n. node_at n x y) at in
       let same : s ≡ L.type (L.level i) = typed ∙ ap L.type at in
-      subst (AtNode K L i c h t f) (sym (told ∙ ap (λ s. left_of s c x y) same))
-      (choice x y here (L.type (L.level i)) c small refl (at_mark K L i c h t f inside small x y here))
+      subst (AtNode K L i b h t f) (sym (told x y ∙ ap (λ s. taken s b x y) same))
+      (choice x y here (L.type (L.level i)) b refl (at_mark K L i (from_bool b) h t f inside (constant_small b) x y here))
 
--- Where the sum of the children is left, that sum is the one smaller call and its result the answer.
-sum_left : (K : Kind) (L : Layout) (s : Decomposition) (c x y : ℕ) → left_of s c x y ≡ Sum x y → (a b : Diagram)
-    → (chosen K L s c a b ≡ result K L (combine sum a b)) × (choosing K L s c a b ≡ combine sum a b ∷ [])
-sum_left K L shannon zero x y e a b = cc
-sum_left K L shannon (suc c) x y e a b = cc
-sum_left K L positive zero x y e a b = cc
-sum_left K L positive (suc c) x y e a b = (refl, refl)
-sum_left K L negative zero x y e a b = (refl, refl)
-sum_left K L negative (suc c) x y e a b = cc
+-- Where both children are left, their sum is the one smaller call and its result the answer.
+sum_left : (K : Kind) (L : Layout) (s : Decomposition) (c : Bool) (x y : ℕ) → taken s c x y ≡ x ∷ y ∷ [] → (a b : Diagram)
+    → (chosen K L s (from_bool c) a b ≡ result K L (combine sum a b)) × (choosing K L s (from_bool c) a b ≡ combine sum a b ∷ [])
+sum_left K L shannon false x y e a b = cc
+sum_left K L shannon true x y e a b = cc
+sum_left K L positive false x y e a b = cc
+sum_left K L positive true x y e a b = (refl, refl)
+sum_left K L negative false x y e a b = (refl, refl)
+sum_left K L negative true x y e a b = cc
 
 -- A shortcut with one smaller call, whose answer is its own.
 module _ {K : Kind} {L : Layout} (ok : Lawful K L) (task part : Task) (fit : Fit K L 0 task) (same : result K L part ≡ result K L task)
@@ -253,16 +254,18 @@ module _ {K : Kind} {L : Layout} (ok : Lawful K L) (task part : Task) (fit : Fit
           (r.0, stands_seen L g p u d r.0 r.1)
 
 -- The sum of the children answers.
-pub sum_restricted : {K : Kind} {L : Layout} {i c h x y : ℕ} {t u : Places} {f g : Entries} {r : Option ℕ} → i < L.size → c < 2 → Summed K L i c h t x y
-    → Combined K L sum x y t u f g r → Restricted K L i c h t u f g r
-sum_restricted {K} {L} {i} {c} {h} {x} {y} {t} {u} {f} {g} {r} inside small s w = record {
+pub sum_restricted : {K : Kind} {L : Layout} {i h x y : ℕ} {b : Bool} {t u : Places} {f g : Entries} {r : Option ℕ} → i < L.size → Summed L i b h t x y
+    → Combined K L sum x y t u f g r → Restricted K L i (from_bool b) h t u f g r
+sum_restricted {K} {L} {i} {h} {x} {y} {b} {t} {u} {f} {g} {r} inside s w = record {
   kept = w.kept;
   inside = no_higher_up u (depth (holds t h)) (floor t x y) r
       (let q = children_under t h (L.level i) x y s.node in omega (arith, q.0.level, q.1.level)) w.inside;
   done = λ ok d sd p sound.
       let good = good_of f p t sound d h sd in
+      let c : ℕ = from_bool b in
+      let small = constant_small b in
       let q = at_mark K L i c h t f inside small x y s.node ok d good sd in
-      let told = sum_left K L (L.type (L.level i)) c x y s.left q.low q.high in
+      let told = sum_left K L (L.type (L.level i)) b x y s.both q.low q.high in
       passed ok (restrict d i c) (combine sum q.low q.high) (good, inside, small) (sym told.0 ∙ q.answer) (q.calls ∙ told.1) q.short
       f g p t u (restrict_key h i c) _ sound r (w.done ok q.low q.high q.left q.right p sound);
 }

@@ -1,7 +1,7 @@
 -- What restricting a handle does to the places and the store of a table. Assumes nothing.
-use Rattle.std.specs.Prelude.{ℕ, zero, suc, Option}
+use Rattle.std.specs.Prelude.{ℕ, Option}
 use Rattle.diagrams.specs.Kinds.{Kind}
-use Rattle.diagrams.specs.Layouts.{Decomposition, shannon, positive, negative, Layout}
+use Rattle.diagrams.specs.Layouts.{Layout}
 use Rattle.diagrams.specs.Diagrams.{Lawful, Diagram}
 use Rattle.diagrams.specs.Tasks.{restrict}
 use Rattle.diagrams.specs.Places.{Stands}
@@ -9,20 +9,9 @@ use Rattle.histories.specs.Stores.{Entries}
 use Rattle.places.specs.declared.places.Places.{Places}
 use Rattle.places.specs.Contents.{depth}
 use Rattle.places.specs.Tables.{holds, Extends}
-use Rattle.building.specs.declared.restrict.Left.{Left}
-use Rattle.building.specs.declared.restrict.Left.TheVariants.{Child, Sum}
 use Rattle.building.specs.Operations.{restrict_key}
 use Rattle.building.specs.Parts.{NoHigher}
 use Rattle.building.specs.Calls.{Ended}
-
--- What a restriction to c leaves of a node of its mark with the children x and y: one of them, or their sum.
-abbrev pub left_of : Decomposition → ℕ → ℕ → ℕ → Left
-left_of shannon zero x y = Child x
-left_of shannon (suc c) x y = Child y
-left_of positive zero x y = Child x
-left_of positive (suc c) x y = Sum x y
-left_of negative zero x y = Sum x y
-left_of negative (suc c) x y = Child x
 
 module _ (K : Kind) (L : Layout) (i c h : ℕ) where
   -- What restricting the handle h did: places in use stay, the answer stands no higher than h, and the call is done.

@@ -1,26 +1,18 @@
 ghost use Rattle.std.specs.Prelude.{◌≡◌, ℕ, ◌+◌, ◌*◌, ◌<◌};
 ghost use Rattle.std.specs.Int.{from_bool};
-ghost use Rattle.layouts.specs.Forms.{decomposition};
 ghost use Rattle.layouts.specs.View.{view};
 ghost use Rattle.places.specs.Tables.{Used};
 ghost use Rattle.stores.specs.Keys.{key_of};
 ghost use Rattle.building.specs.Operations.{restrict_key};
-ghost use Rattle.building.specs.Restricting.{left_of, Restricted};
+ghost use Rattle.building.specs.Restricting.{Restricted};
 
 use crate::combine::{combine, finish};
 use crate::operation::Operation;
 use kinds::Value;
-use layouts::{Form, Layout};
+use layouts::{Layout, Turn};
 use places::place::Content;
 use places::places::Places;
 use stores::{Key, Store};
-
-// What a restriction leaves of a node of its mark: one of its children, or their sum.
-#[derive(Clone, Copy)]
-pub enum Left {
-    Child(u16),
-    Sum(u16, u16),
-}
 
 // Under which key a store has the restriction of a handle.
 fn stored_under(h: u16, mark: u8, constant: bool) -> Key
@@ -30,21 +22,6 @@ fn stored_under(h: u16, mark: u8, constant: bool) -> Key
         operation: stores::Operation::Restrict,
         left: h,
         right: 2 * u16::from(mark) + u16::from(constant),
-    }
-}
-
-// What a restriction leaves of a node of its mark, on a level of that type. The walk of grading turns by the same six rows: one type for both would
-// need a crate of its own under both, which is no plainer.
-fn choose(form: Form, constant: bool, low: u16, high: u16) -> Left
-    ensures { result ≡ left_of (decomposition form) (from_bool constant) low high }
-{
-    match (form, constant) {
-        (Form::Shannon, false) => Left::Child(low),
-        (Form::Shannon, true) => Left::Child(high),
-        (Form::PositiveDavio, false) => Left::Child(low),
-        (Form::PositiveDavio, true) => Left::Sum(low, high),
-        (Form::NegativeDavio, false) => Left::Sum(low, high),
-        (Form::NegativeDavio, true) => Left::Child(low),
     }
 }
 
@@ -69,9 +46,10 @@ pub fn restrict<K: Value, S: Store>(
         return Some(h);
     }
     if level == target {
-        return match choose(layout.form(level), constant, low, high) {
-            Left::Child(child) => Some(child),
-            Left::Sum(x, y) => combine::<K, S>(places, store, layout, Operation::Sum, x, y),
+        return match layout.form(level).turn(constant) {
+            Turn::Low => Some(low),
+            Turn::High => Some(high),
+            Turn::Both => combine::<K, S>(places, store, layout, Operation::Sum, low, high),
         };
     }
     let key = stored_under(h, mark, constant);

@@ -8,7 +8,8 @@ use Rattle.diagrams.proofs.Nodes.{rule_value, good_up}
 use Rattle.diagrams.proofs.Composing.{zero_sum}
 use Rattle.places.specs.declared.places.Places.{Places}
 use Rattle.places.specs.Tables.{holds}
-use Rattle.grading.specs.Turns.{chosen, opened, worth}
+use Rattle.layouts.specs.Turns.{chosen}
+use Rattle.grading.specs.Turns.{opened, worth}
 use Rattle.grading.proofs.Stacking.{Stacked, opened_stacked}
 
 module _ (K : Kind) (L : Layout) (t : Places) (fruit : ℕ) where

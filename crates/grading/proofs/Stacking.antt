@@ -6,7 +6,8 @@ use Rattle.places.specs.declared.places.Places.{Places}
 use Rattle.places.specs.Contents.{depth}
 use Rattle.places.specs.Tables.{holds}
 use Rattle.places.proofs.Extending.{node_under}
-use Rattle.grading.specs.Turns.{chosen, opened}
+use Rattle.layouts.specs.Turns.{chosen}
+use Rattle.grading.specs.Turns.{opened}
 
 -- What holds of low alone, of high alone and of both holds of the children that are chosen.
 pub chosen_cases : (P : List ℕ → Type 0) (x y : ℕ) → P (x ∷ []) → P (y ∷ []) → P (x ∷ y ∷ []) → (k : Decomposition) (b : Bool) → P (chosen k b x y)

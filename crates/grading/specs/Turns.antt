@@ -1,26 +1,9 @@
 -- What a place adds to the value that a fruit is given. Assumes nothing.
-use Rattle.std.specs.Prelude.{ℕ, Bool, true, false, List, [], ◌∷◌, ◌==◌}
+use Rattle.std.specs.Prelude.{ℕ, List, [], ◌==◌}
 use Rattle.diagrams.specs.Kinds.{Kind}
-use Rattle.diagrams.specs.Layouts.{Decomposition, shannon, positive, negative, Layout, bit}
+use Rattle.diagrams.specs.Layouts.{Layout, bit}
 use Rattle.diagrams.specs.Places.{Content, free, leaf_word, node_at}
-use Rattle.grading.specs.declared.turn.Turn.{Turn}
-use Rattle.grading.specs.declared.turn.Turn.TheVariants.{Low, High, Both}
-
--- The children that a turn names, low before high.
-abbrev pub children : Turn → ℕ → ℕ → List ℕ
-children Low low high = low ∷ []
-children High low high = high ∷ []
-children Both low high = low ∷ high ∷ []
-
--- The children whose values a node adds: Shannon low without its mark and high with it, positive Davio low, and high with its mark,
--- negative Davio low, and high without it.
-abbrev pub chosen : Decomposition → Bool → ℕ → ℕ → List ℕ
-chosen shannon false low high = low ∷ []
-chosen shannon true low high = high ∷ []
-chosen positive false low high = low ∷ []
-chosen positive true low high = low ∷ high ∷ []
-chosen negative false low high = low ∷ high ∷ []
-chosen negative true low high = low ∷ []
+use Rattle.layouts.specs.Turns.{chosen}
 
 -- The places that a content adds for a fruit: a node's chosen children.
 abbrev pub opened : Layout → ℕ → Content → List ℕ

@@ -1,9 +1,9 @@
 ghost use Rattle.std.specs.Prelude.{◌≡◌, ◌<◌, ◌++◌, length};
 ghost use Rattle.grading.specs.Frames.{pending};
-ghost use Rattle.grading.specs.Turns.{children};
+ghost use Rattle.layouts.specs.Turns.{children};
 
-use crate::turn::Turn;
 use arrayvec::ArrayVec;
+use layouts::Turn;
 
 /// The places whose values are still to be added, the next one last. No more places come before one than its level says, so that 33
 /// are enough.

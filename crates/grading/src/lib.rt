@@ -2,7 +2,6 @@
 #![tactic(auto)]
 
 mod frames;
-mod turn;
 mod walk;
 
 pub use walk::grade;

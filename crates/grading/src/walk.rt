@@ -8,7 +8,6 @@ ghost use Rattle.grading.specs.Frames.{pending};
 ghost use Rattle.grading.specs.Turns.{worth, opened};
 
 use crate::frames::{Frames, open};
-use crate::turn::Turn;
 use kinds::Value;
 use layouts::{Layout, has_mark};
 use places::place::Content;
@@ -30,7 +29,8 @@ fn visit<K: Value>(
     match places.content(place) {
         Content::Leaf(word) => word,
         Content::Node { level, low, high } => {
-            let turn = Turn::of(layout.form(level), has_mark(fruit, layout.mark(level)));
+            let marked = has_mark(fruit, layout.mark(level));
+            let turn = layout.form(level).turn(marked);
             open(frames, turn, low, high);
             K::ZERO
         }

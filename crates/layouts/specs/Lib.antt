@@ -1,4 +1,5 @@
 pub mod Capacities
 pub mod Forms
 pub mod Levels
+pub mod Turns
 pub mod View

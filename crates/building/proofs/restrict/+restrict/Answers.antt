@@ -1,4 +1,5 @@
 use Rattle.std.proofs.Common.{ℕ, ◌<◌, sym, ◌∙◌, subst, arith}
+use Rattle.layouts.specs.declared.turn.Turn.TheVariants.{Low, High, Both}
 use Rattle.places.specs.declared.place.Content.TheVariants.{Node}
 use Rattle.places.proofs.Holding.{seen_one}
 use Rattle.places.proofs.Extending.{node_under, under_still, under_higher}
@@ -15,16 +16,19 @@ returns-then-level-target g t c =
     deeper_restricted _ _ _ _ _ _ _ c.requires.mark (constant_small c.args.constant) _ _ _ c.in-Node.ensures
     (subst (λ (n : ℕ). n < c.in-Node.level) c.level-target.ensures c.if-level-target.true)
 
-pub returns-in-Child : goal.returns-in-Child
-returns-in-Child g t c =
-    at_node _ _ _ _ _ _ c.requires.mark _ (constant_small c.args.constant) _ _ _ c.in-Node.ensures
-    (c.if-level-target-2.true ∙ c.level-target.ensures) _ _ c.in-Child.ensures c.form.ensures
+pub returns-in-Low : goal.returns-in-Low
+returns-in-Low g t c =
+    at_node _ _ _ _ _ _ c.requires.mark _ _ _ _ c.in-Node.ensures (c.if-level-target-2.true ∙ c.level-target.ensures) Low _ c.in-Low.ensures c.form.ensures
 
-pub returns-in-Sum : goal.returns-in-Sum
-returns-in-Sum g t c =
-    sum_restricted c.requires.mark (constant_small c.args.constant)
-    (at_node _ _ _ _ _ (g.S.Store.entries c.args.store.now) c.requires.mark _ (constant_small c.args.constant) _ _ _ c.in-Node.ensures
-    (c.if-level-target-2.true ∙ c.level-target.ensures) _ _ c.in-Sum.ensures c.form.ensures)
+pub returns-in-High : goal.returns-in-High
+returns-in-High g t c =
+    at_node _ _ _ _ _ _ c.requires.mark _ _ _ _ c.in-Node.ensures (c.if-level-target-2.true ∙ c.level-target.ensures) High _ c.in-High.ensures c.form.ensures
+
+pub returns-in-Both : goal.returns-in-Both
+returns-in-Both g t c =
+    sum_restricted c.requires.mark
+    (at_node g.K.Value.kind _ _ _ _ (g.S.Store.entries c.args.store.now) c.requires.mark _ _ _ _ c.in-Node.ensures
+    (c.if-level-target-2.true ∙ c.level-target.ensures) Both _ c.in-Both.ensures c.form.ensures)
     c.combine.ensures
 
 pub returns-in-Some : goal.returns-in-Some
