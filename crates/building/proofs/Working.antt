@@ -6,7 +6,7 @@ use Rattle.diagrams.specs.Kinds.{Kind}
 use Rattle.diagrams.specs.Layouts.{Layout}
 use Rattle.diagrams.specs.Diagrams.{Diagram}
 use Rattle.diagrams.specs.Tasks.{Task, result}
-use Rattle.diagrams.specs.Building.{shortcut, Inside, itself, deeper}
+use Rattle.diagrams.specs.Building.{shortcut, Inside, itself}
 use Rattle.diagrams.proofs.Places.{stands_for_one, stands_used}
 use Rattle.histories.specs.Stores.{Key}
 use Rattle.histories.specs.Tables.{Model, content, InUse, Outnumber}

@@ -1,8 +1,6 @@
 -- Beginning, exchange and a new type give valid layouts. Assumes nothing.
-use Rattle.std.proofs.Common.{◌≡◌, ℕ, ◌/◌, ◌^◌, ◌<◌, refl, ap, ◌∙◌, arith}
-use lib.Bits.{bit_and}
-use Rattle.std.proofs.lemmas.Nat.{and_mask}
-use Rattle.diagrams.specs.Layouts.{Decomposition, Layout, Valid, bit, begun, swapped, exchanged, retyped}
+use Rattle.std.proofs.Common.{◌≡◌, ℕ, ◌<◌, refl, ap, ◌∙◌, arith}
+use Rattle.diagrams.specs.Layouts.{Decomposition, Layout, Valid, begun, swapped, exchanged, retyped}
 
 pub begun_valid : (n : ℕ) → 0 < n → n < 33 → Valid (begun n)
 begun_valid n h k = record {

@@ -1,5 +1,5 @@
 -- What is true of every history, and of any two. Assumes nothing.
-use Rattle.std.proofs.Common.{◌≡◌, ℕ, ◌↔◌, List, [], ◌∷◌, length, take, sym, refl, ap, ◌∙◌, subst, ap₂, inl, inr, arith}
+use Rattle.std.proofs.Common.{◌≡◌, ℕ, ◌↔◌, List, length, take, sym, refl, ap, ◌∙◌, subst, ap₂, inl, inr, arith}
 use lib.Seq.{take-append-le}
 use Rattle.std.proofs.Math.Seq.{take-length}
 use Rattle.diagrams.specs.Kinds.{Kind}

@@ -12,7 +12,7 @@ use Rattle.diagrams.specs.Places.{Content, Stands, Unshared}
 use Rattle.diagrams.proofs.Places.{stands_for_one, stands_used, stands_kept, one_handle}
 use Rattle.diagrams.proofs.Visits.{follow_distinct}
 use Rattle.diagrams.proofs.Measures.{ordered}
-use Rattle.histories.specs.Tables.{Model, capacity, content, Live, StandsFor, InUse, Outnumber}
+use Rattle.histories.specs.Tables.{Model, capacity, content, StandsFor, InUse, Outnumber}
 use Rattle.histories.specs.Steps.{Gains}
 use Rattle.histories.proofs.Sound.{Sound}
 use Rattle.histories.proofs.Different.{distinct_within}

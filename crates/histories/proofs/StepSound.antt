@@ -7,7 +7,7 @@ use Rattle.diagrams.specs.Kinds.{Kind}
 use Rattle.diagrams.specs.Layouts.{Layout}
 use Rattle.diagrams.specs.Diagrams.{Lawful, Diagram, Good}
 use Rattle.diagrams.specs.Tasks.{Task, Fit}
-use Rattle.diagrams.specs.Places.{Content, free, leaf_word, Place, vacant, Unshared}
+use Rattle.diagrams.specs.Places.{free, Place, vacant, Unshared}
 use Rattle.diagrams.proofs.Places.{leaf_used}
 use Rattle.histories.specs.Tables.{Model, capacity, place, content, count, Live, StandsFor}
 use Rattle.histories.specs.Requests.{Call, build, read, hold, let_go, sweep, look, release, reopen, Asked, Answer}

@@ -1,13 +1,12 @@
 -- Hex, read a pair at a time. Assumes nothing.
-use Rattle.std.proofs.Common.{◌≡◌, ℕ, zero, suc, ◌+◌, ◌/◌, ◌%◌, ◌<◌, ◌≤◌, min, Bool, true, false, cond, nat_le, List, [], ◌∷◌, ◌++◌, length, get_or, take, encode_utf8, Some, None, Ok, Err, Option, Result, sym, refl, ap, ◌∙◌, append_assoc, add-one, arith, Bor}
-use Rattle.std.proofs.lemmas.List.{take_all}
+use Rattle.std.proofs.Common.{◌≡◌, ℕ, zero, suc, ◌+◌, ◌/◌, ◌%◌, ◌<◌, min, Bool, true, false, cond, nat_le, List, [], ◌∷◌, ◌++◌, length, get_or, take, encode_utf8, Some, None, Ok, Err, Option, Result, sym, refl, ap, ◌∙◌, append_assoc, add-one, arith, Bor}
 use Rattle.std.proofs.lemmas.Str.{encode_ascii}
 use Rattle.std.specs.Option.{ok_or}
 use Rattle.std.specs.declared.slice.Chunks.{Chunks}
 use Rattle.std.specs.Slice.Iter.{chunks_rest, chunks_size, chunks_steps}
 use Rattle.journal_text.specs.declared.mistake.Mistake.TheVariants.{BadHex}
 use Rattle.journal_text.specs.declared.mistake.Mistake.{Mistake}
-use Rattle.journal_text.specs.Hex.{hex_digit, hex_value, pair_of, byte_of, before, bytes_of, digits, hex_text}
+use Rattle.journal_text.specs.Hex.{hex_digit, hex_value, pair_of, byte_of, before, bytes_of, digits}
 
 -- bytes before the bytes that follow
 abbrev pub follows : List ℕ → Result (List ℕ) Mistake → Result (List ℕ) Mistake

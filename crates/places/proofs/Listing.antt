@@ -1,9 +1,9 @@
 -- The places of a table as a list. Assumes nothing.
-use Rattle.std.proofs.Common.{◌≡◌, ℕ, length, get_or, ap, arith}
+use Rattle.std.proofs.Common.{◌≡◌, ℕ, length, get_or, arith}
 use Rattle.std.proofs.lemmas.Grind.{common_steps}
-use Rattle.diagrams.specs.Places.{Place, vacant}
+use Rattle.diagrams.specs.Places.{vacant}
 use Rattle.places.specs.declared.places.Places.{Places}
-use Rattle.places.specs.Tables.{place, holds, list_of}
+use Rattle.places.specs.Tables.{place, list_of}
 use Rattle.places.proofs.Extending.{past_vacant}
 
 pub list_length : (t : Places) → length (list_of t) ≡ t.capacity

@@ -14,7 +14,7 @@ use Rattle.places.specs.declared.places.Places.{Places}
 use Rattle.places.specs.Contents.{depth}
 use Rattle.places.specs.Tables.{holds, Used, Under, Extends, Given}
 use Rattle.places.proofs.Standing.{stands_used}
-use Rattle.places.proofs.Extending.{stands_still, stays, then, given_only, unshared}
+use Rattle.places.proofs.Extending.{stands_still, then, given_only, unshared}
 use Rattle.walks.specs.Walks.{StandFor}
 use Rattle.walks.proofs.Standing.{stand_push, stand_nth}
 
