@@ -55,10 +55,9 @@ fn byte_of(pair: &[u8]) -> Result<u8, Mistake>
     let [high, low] = pair else {
         return Err(Mistake::OddHex);
     };
-    match (hex_value(*high), hex_value(*low)) {
-        (Some(high), Some(low)) => Ok(high * 16 + low),
-        _ => Err(Mistake::BadHex),
-    }
+    let high = hex_value(*high).ok_or(Mistake::BadHex)?;
+    let low = hex_value(*low).ok_or(Mistake::BadHex)?;
+    Ok(high * 16 + low)
 }
 
 // The digits of a hex text: `-` stands for none.
@@ -114,7 +113,7 @@ impl fmt::Display for InHex<'_> {
         if self.bytes.is_empty() {
             return f.write_str("-");
         }
-        // By `hex_digit`, of which the text is made: `{byte:02x}` would need a lemma that ties the library's digits to it.
+        // By `hex_digit`, of which a hex text is made: `{byte:02x}` is no plainer, as the library's words for it would have to be tied to that.
         for byte in self.bytes {
             f.write_char(char::from(hex_digit(*byte / 16)))?;
             f.write_char(char::from(hex_digit(*byte)))?;

@@ -22,6 +22,8 @@ impl Places {
         Some(h as u16)
     }
 
+    // What is asked of a content, or of the children of a node, is asked by each of these: the table changes, so that no type could keep it.
+
     // Fills a free place with a content that no place holds.
     fn put(&mut self, h: u16, content: Content)
         requires used { in_use (seen_content content) ≡ true }

@@ -4,6 +4,7 @@ ghost use Rattle.sheets.specs.Scanned.{Checked};
 
 use kinds::Value;
 use layouts::Layout;
+use places::places::SLOTS;
 use refusals::SheetFault;
 use sheets::put::put_head;
 use sheets::{Expected, check_sheet};
@@ -17,7 +18,7 @@ pub fn admit<K: Value>(
     bytes: &[u8],
     list: &mut [u32],
 ) -> Result<usize, SheetFault>
-    requires few { limit ≤ 4096 }
+    requires few { limit ≤ SLOTS }
     requires room { limit ≤ length list.old }
     ensures answer { Checked K.Value.kind (view layout.now) limit bytes.now list.new result }
     ensures past { drop limit list.new ≡ drop limit list.old }

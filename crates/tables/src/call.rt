@@ -1,4 +1,5 @@
-// A building call as a value: the calls of the specification, so that one function carries them all out.
+// A building call as a value: the calls of the specification, so that one function carries them all out. A rule of the project: a call that is kept for
+// later is then a value, as no closure could be.
 use building::operation::Operation;
 
 #[derive(Clone, Copy)]

@@ -9,7 +9,7 @@ use stores::last::Last;
 use stores::own::Own;
 use tables::Open;
 
-// A refusal's number and byte place; 0 and the handle where the sheet is taken.
+// A refusal's number and byte place, as the trials name a fault; 0 and the handle where the sheet is taken.
 fn told(answer: Result<u32, TableFault>) -> (u8, usize) {
     match answer {
         Ok(handle) => (0, handle as usize),

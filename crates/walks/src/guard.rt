@@ -17,6 +17,7 @@ impl Drop for Cleared<'_> {
 }
 
 /// Makes the first entries of a list zero.
+// A count beside the list, and no part of it: what is said is what the whole list is afterwards.
 pub fn clear(list: &mut [u32], count: usize)
     requires { count ≤ length list.old }
     ensures { list.new ≡ replicate count 0 ++ drop count list.old }

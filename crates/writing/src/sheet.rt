@@ -14,14 +14,14 @@ use crate::emit::put_records;
 use crate::head::{Head, head_of};
 use kinds::Value;
 use layouts::Layout;
-use places::places::Places;
+use places::places::{Places, SLOTS};
 use refusals::Refusal;
 use sheets::put::{put_end, put_head};
 use walks::{Cleared, Order, nodes, reach, unwalked};
 
 // How long a sheet is: twelve bytes and two for each level, eight for each leaf or node, and one more for each node.
 fn measure(levels: u8, records: usize, nodes: u32) -> u32
-    requires few { records ≤ 4096 }
+    requires few { records ≤ SLOTS }
     requires within { nodes ≤ records }
     ensures { result ≡ 12 + 2 * levels + 8 * records + nodes }
 {
