@@ -51,7 +51,7 @@ module _ {K : Kind} {L : Layout} (ok : Lawful K L) (o : Operation) (d e x : Diag
   short_smaller = ap (λ s. smaller_of (way_to_combine K L o d e s)) q
 
 module _ {K : Kind} {L : Layout} {o : Operation} {a b : ℕ} {t : Places} {f : Entries} where
-  handle_combined : {h : ℕ} → Quickly K t o a b (Some (Handle h)) → Combined K L o a b t t f f (Some h)
+  pub handle_combined : {h : ℕ} → Quickly K t o a b (Some (Handle h)) → Combined K L o a b t t f f (Some h)
   handle_combined {h} q = record {
     kept = stays t;
     inside = q.safe;
@@ -78,7 +78,7 @@ module _ {K : Kind} {L : Layout} {o : Operation} {a b : ℕ} {t : Places} {f : E
   }
 
   -- The store has the answer.
-  hit_combined : {h : ℕ} → Under t (floor t a b) h → f (combine_key o a b) ≡ Some h → Combined K L o a b t t f f (Some h)
+  pub hit_combined : {h : ℕ} → Under t (floor t a b) h → f (combine_key o a b) ≡ Some h → Combined K L o a b t t f f (Some h)
   hit_combined {h} under found = record {
     kept = stays t;
     inside = under;

@@ -59,6 +59,9 @@ module _ (K : Kind) (t : Places) (a b : ℕ) where
   pub sum_left : Used t b → a ≡ 0 → Quickly K t sum a b (Some (Handle b))
   sum_left u q = record { safe = right u; short = λ k d e x y. (e, same_yes _ _ _ _ (one_diagram q d _ x k.zero), y) }
 
+  pub sum_right : Used t a → (a ≡ 0 → ⊥) → b ≡ 0 → Quickly K t sum a b (Some (Handle a))
+  sum_right u n q = record { safe = left u; short = λ k d e x y. (d, same_no _ _ _ _ (apart n d _ x k.zero) ∙ same_yes _ _ _ _ (one_diagram q e _ y k.zero), x) }
+
   pub sum_rest : (r : Option Answer) → (a ≡ 0 → ⊥) → (b ≡ 0 → ⊥) → Last K t sum a b r → Quickly K t sum a b r
   sum_rest r m n = through sum r (λ k d e x y. same_no _ _ _ _ (apart m d _ x k.zero) ∙ same_no _ _ _ _ (apart n e _ y k.zero))
 
@@ -77,11 +80,28 @@ module _ (K : Kind) (t : Places) (a b : ℕ) where
   pub product_left : a ≡ 0 → Quickly K t product a b (Some (Handle 0))
   product_left q = record { safe = zeroth; short = λ k d e x y. (leaf K.zero, same_yes _ _ _ _ (one_diagram q d _ x k.zero), k.zero) }
 
+  pub product_right : (a ≡ 0 → ⊥) → b ≡ 0 → Quickly K t product a b (Some (Handle 0))
+  product_right n q = record {
+    safe = zeroth;
+    short = λ k d e x y. (leaf K.zero, same_no _ _ _ _ (apart n d _ x k.zero) ∙ same_yes _ _ _ _ (one_diagram q e _ y k.zero), k.zero);
+  }
+
   pub one_left : Used t b → (a ≡ 0 → ⊥) → (b ≡ 0 → ⊥) → a ≡ 1 → Quickly K t product a b (Some (Handle b))
   one_left u m n q = record {
     safe = right u;
     short = λ k d e x y.
         (e, same_no _ _ _ _ (apart m d _ x k.zero) ∙ same_no _ _ _ _ (apart n e _ y k.zero) ∙ same_yes _ _ _ _ (one_diagram q d _ x k.one), y);
+  }
+
+  pub one_right : Used t a → (a ≡ 0 → ⊥) → (b ≡ 0 → ⊥) → (a ≡ 1 → ⊥) → b ≡ 1 → Quickly K t product a b (Some (Handle a))
+  one_right u m n i q = record {
+    safe = left u;
+    short = λ k d e x y. (
+      d,
+      same_no _ _ _ _ (apart m d _ x k.zero) ∙ same_no _ _ _ _ (apart n e _ y k.zero) ∙ same_no _ _ _ _ (apart i d _ x k.one)
+          ∙ same_yes _ _ _ _ (one_diagram q e _ y k.one),
+      x,
+    );
   }
 
   pub product_rest : (r : Option Answer) → (a ≡ 0 → ⊥) → (b ≡ 0 → ⊥) → (a ≡ 1 → ⊥) → (b ≡ 1 → ⊥) → Last K t product a b r → Quickly K t product a b r

@@ -401,11 +401,11 @@ module _ {K : Kind} {L : Layout} {o : Operation} {a b : ℕ} {t : Places} {f : E
   low_below : BothBelow t l la lb
   low_below = (B.first.below_low, B.second.below_low)
 
-  high_below : {u : Places} → Extends t u → BothBelow u l ha hb
+  pub high_below : {u : Places} → Extends t u → BothBelow u l ha hb
   high_below x = (under_still x _ ha B.first.below_high, under_still x _ hb B.second.below_high)
 
   module _ {t1 : Places} {f1 : Entries} {x1 : ℕ} (w1 : Combined K L o la lb t t1 f f1 (Some x1)) where
-    below2 : BothBelow t1 l la hb
+    pub below2 : BothBelow t1 l la hb
     below2 = (under_still w1.kept _ la B.first.below_low, under_still w1.kept _ hb B.second.below_high)
 
     pub plain_below : {t2 : Places} {f2 : Entries} {x2 : ℕ} → Combined K L o ha hb t1 t2 f1 f2 (Some x2) → BothBelow t2 l x1 x2

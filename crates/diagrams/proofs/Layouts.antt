@@ -1,6 +1,8 @@
--- Beginning, exchange and a new type give valid layouts. Assumes nothing.
-use Rattle.std.proofs.Common.{◌≡◌, ℕ, ◌<◌, refl, ap, ◌∙◌, arith}
-use Rattle.diagrams.specs.Layouts.{Decomposition, Layout, Valid, begun, swapped, exchanged, retyped}
+-- Beginning, exchange and a new type give valid layouts; a mark as the code reads it. Assumes nothing.
+use Rattle.std.proofs.Common.{◌≡◌, ℕ, ◌/◌, ◌^◌, ◌<◌, refl, ap, ◌∙◌, arith}
+use lib.Bits.{bit_and}
+use Rattle.std.proofs.lemmas.Nat.{and_mask}
+use Rattle.diagrams.specs.Layouts.{Decomposition, Layout, Valid, bit, begun, swapped, exchanged, retyped}
 
 pub begun_valid : (n : ℕ) → 0 < n → n < 33 → Valid (begun n)
 begun_valid n h k = record {
@@ -37,3 +39,7 @@ retyped_valid L i t s = record {
   level_mark = s.level_mark;
   mark_level = s.mark_level;
 }
+
+-- `(fruit >> i) & 1`
+pub shifted_bit : (i w : ℕ) → bit_and (w / 2 ^ i) 1 ≡ bit i w
+shifted_bit i w = and_mask (w / 2 ^ i) 1

@@ -102,6 +102,18 @@ module _ {K : Kind} {L : Layout} (ok : Lawful K L) where
   high_here l a b =
       elim (ℕ_discrete l l) as (λ s. elim s [ yes _ ↦ b | no _ ↦ spare K (L.type l) (node l a b) ] ≡ b) [ yes _ ↦ refl | no n ↦ absurd (n refl) ]
 
+  -- A diagram that stands deeper parts into itself and what it has to spare.
+  pub low_deeper : (l : ℕ) (d : Diagram) → Good K L (suc l) d → low K L l d ≡ d
+  low_deeper l (leaf v) g = refl
+  low_deeper l (node m a b) g =
+      elim (ℕ_discrete l m) as (λ s. elim s [ yes _ ↦ a | no _ ↦ node m a b ] ≡ node m a b) [ yes e ↦ absurd (omega arith) | no _ ↦ refl ]
+
+  pub high_deeper : (l : ℕ) (d : Diagram) → Good K L (suc l) d → high K L l d ≡ spare K (L.type l) d
+  high_deeper l (leaf v) g = refl
+  high_deeper l (node m a b) g =
+      elim (ℕ_discrete l m) as (λ s. elim s [ yes _ ↦ b | no _ ↦ spare K (L.type l) (node m a b) ] ≡ spare K (L.type l) (node m a b))
+      [ yes e ↦ absurd (omega arith) | no _ ↦ refl ]
+
   pub rule_parts : (l : ℕ) (d : Diagram) → Good K L l d → (w : ℕ)
       → rule K L d w ≡ join K (L.type l) (bit (L.mark l) w) (rule K L (low K L l d) w) (rule K L (high K L l d) w)
   rule_parts l d g w =

@@ -12,7 +12,7 @@ use Rattle.diagrams.specs.Places.{Content, Stands, Unshared}
 use Rattle.diagrams.proofs.Places.{stands_for_one, stands_used, stands_kept, one_handle}
 use Rattle.diagrams.proofs.Visits.{follow_distinct}
 use Rattle.diagrams.proofs.Measures.{ordered}
-use Rattle.histories.specs.Tables.{Model, capacity, content, StandsFor, InUse, Outnumber}
+use Rattle.histories.specs.Tables.{Model, capacity, content, Live, StandsFor, InUse, Outnumber}
 use Rattle.histories.specs.Steps.{Gains}
 use Rattle.histories.proofs.Sound.{Sound}
 use Rattle.histories.proofs.Different.{distinct_within}
@@ -111,3 +111,15 @@ places_outnumber m at P unshared each d new p =
       λ e q. elim (Memᴰ.cases_cons q) [ inl t ↦ inr (subst P (sym t) p) | inr t ↦ (r.from e t).3 ],
       omega (arith, r.many),
     )
+
+-- A table k in the middle of work on m, all of whose places are in use.
+pub filled_outnumbers : (m k : Model) (P : Diagram → Type 0) → capacity k ≡ capacity m → Unshared (content k)
+    → ((h : ℕ) → h < capacity k → (e : Diagram) × StandsFor k e h × (InUse m e ⊎ P e))
+    → (d : Diagram) → ¬ InUse k d → P d → Outnumber m P
+filled_outnumbers m k P room unshared each d new p = places_outnumber m (content k) P unshared (λ h l. each h (omega arith)) d new p
+
+-- A full table, to which one more diagram with P is to come.
+pub full_outnumbers : {K : Kind} {L : Layout} (m : Model) → Sound K L m → ((h : ℕ) → h < capacity m → Live m h)
+    → (d : Diagram) → ¬ InUse m d → (P : Diagram → Type 0) → P d → Outnumber m P
+full_outnumbers m s full d new P p =
+    places_outnumber m (content m) P s.unshared (λ h l. let g = s.good h (full h l) in (g.0, g.2, inl (h, g.2))) d new p

@@ -1,12 +1,15 @@
 -- Hex, read a pair at a time. Assumes nothing.
-use Rattle.std.proofs.Common.{◌≡◌, ℕ, zero, suc, ◌+◌, ◌/◌, ◌%◌, ◌<◌, min, Bool, true, false, cond, nat_le, List, [], ◌∷◌, ◌++◌, length, get_or, take, encode_utf8, Some, None, Ok, Err, Option, Result, sym, refl, ap, ◌∙◌, append_assoc, add-one, arith, Bor}
-use Rattle.std.proofs.lemmas.Str.{encode_ascii}
+use Rattle.std.proofs.Common.{◌≡◌, ℕ, zero, suc, ◌+◌, ◌/◌, ◌%◌, ◌<◌, min, Bool, true, false, cond, nat_le, List, [], ◌∷◌, ◌++◌, length, get_or, take, Some, None, Ok, Err, Option, Result, sym, refl, ap, ◌∙◌, append_assoc, add-one, arith, inl, inr, Bor}
+use Rattle.std.specs.Str.{IsAscii}
+use Rattle.std.proofs.lemmas.Str.{IsUtf8-from_ascii}
+use Rattle.std.proofs.lemmas.Str.Ascii.{IsAscii-nil, IsAscii-cons}
 use Rattle.std.specs.Option.{ok_or}
 use Rattle.std.specs.declared.slice.Chunks.{Chunks}
 use Rattle.std.specs.Slice.Iter.{chunks_rest, chunks_size, chunks_steps}
 use Rattle.journal_text.specs.declared.mistake.Mistake.TheVariants.{BadHex}
 use Rattle.journal_text.specs.declared.mistake.Mistake.{Mistake}
 use Rattle.journal_text.specs.Hex.{hex_digit, hex_value, pair_of, byte_of, before, bytes_of, digits}
+use Rattle.journal_text.specs.Scans.{Shows}
 
 -- bytes before the bytes that follow
 abbrev pub follows : List ℕ → Result (List ℕ) Mistake → Result (List ℕ) Mistake
@@ -54,11 +57,16 @@ module _ (ds : List ℕ) (s t : Chunks ℕ) (pair : Bor (List ℕ)) (step : chun
   no_byte e is = next ∙ ap (λ r. follows bs (paired r (bytes_of (chunks_rest t)))) is
 
 -- the digits of the next byte come last
-digits_push : (bs : List ℕ) (i : ℕ) → i < length bs → digits (take (i + 1) bs) ≡ digits (take i bs) ++ (hex_digit (get_or bs i 0 / 16) ∷ hex_digit (get_or bs i 0) ∷ [])
+pub digits_push : (bs : List ℕ) (i : ℕ) → i < length bs → digits (take (i + 1) bs) ≡ digits (take i bs) ++ (hex_digit (get_or bs i 0 / 16) ∷ hex_digit (get_or bs i 0) ∷ [])
 digits_push [] i lt = absurd (omega arith)
 digits_push (b ∷ bs) zero lt = refl
 digits_push (b ∷ bs) (suc i) lt =
     let more = rw add-one at (digits_push bs i (omega arith)) in rw add-one (ap (λ l. hex_digit (b / 16) ∷ hex_digit b ∷ l) more)
+
+-- the digits of bytes and of those after them
+digits_append : (bs more : List ℕ) → digits (bs ++ more) ≡ digits bs ++ digits more
+digits_append [] more = refl
+digits_append (b ∷ bs) more = ap (λ l. hex_digit (b / 16) ∷ hex_digit b ∷ l) (digits_append bs more)
 
 -- a digit is one byte of text
 hex_digit_ascii : (n : ℕ) → hex_digit n < 128
@@ -68,9 +76,16 @@ hex_digit_ascii n = by (nat_le (n % 16) 9)
     by true = omega arith
     by false = omega arith
 
--- the two digits of the next byte, as they are written
-pub digits_written : (bs : List ℕ) (i h l : ℕ) → i < length bs → h ≡ hex_digit (get_or bs i 0 / 16) → l ≡ hex_digit (get_or bs i 0)
-    → (digits (take i bs) ++ encode_utf8 h) ++ encode_utf8 l ≡ digits (take (i + 1) bs)
-digits_written bs i h l lt high low =
-    rw (high, low, encode_ascii (hex_digit (get_or bs i 0 / 16)) (hex_digit_ascii _), encode_ascii (hex_digit (get_or bs i 0)) (hex_digit_ascii _), append_assoc)
-    (sym (digits_push bs i lt))
+-- digits are ASCII
+digits_ascii : (bs : List ℕ) → IsAscii (digits bs)
+digits_ascii [] = IsAscii-nil
+digits_ascii (b ∷ bs) = IsAscii-cons _ (hex_digit b ∷ digits bs) (hex_digit_ascii (b / 16)) (IsAscii-cons _ (digits bs) (hex_digit_ascii b) (digits_ascii bs))
+
+-- digits are text
+digits_shown : (bs text : List ℕ) → Shows (digits bs) text → text ≡ digits bs
+digits_shown bs text (inl e) = e
+digits_shown bs text (inr (e, bad)) = absurd (bad (IsUtf8-from_ascii (digits bs) (digits_ascii bs)))
+
+-- the digits of the next chunk come after those that are out
+pub chunk_written : (bs out chunk rest text : List ℕ) → Shows (digits chunk) text → out ++ digits (chunk ++ rest) ≡ bs → (out ++ text) ++ digits rest ≡ bs
+chunk_written bs out chunk rest text shows so_far = rw (digits_shown chunk text shows, append_assoc, ← digits_append chunk rest) so_far

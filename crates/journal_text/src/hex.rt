@@ -1,9 +1,11 @@
 // Bytes as pairs of hex digits.
-ghost use Rattle.std.specs.Prelude.{◌≡◌, true, is_ok, Err, Some, MatchResult};
+ghost use Rattle.std.specs.Prelude.{◌≡◌, ◌≤◌, length, true, is_ok, Err, Some, MatchResult};
 ghost use Rattle.journal_text.specs.declared.hex.Unread.TheVariants as unread;
-ghost use Rattle.journal_text.specs.Hex.{hex_digit, hex_value, byte_of, digits_of, hex_of, Decoded, hex_text};
+ghost use Rattle.journal_text.specs.Hex.{hex_digit, hex_value, byte_of, digits_of, hex_of, Decoded, digits, hex_text};
 
 use crate::mistake::Mistake;
+use crate::scan::text;
+use arrayvec::ArrayVec;
 use std::alloc::{AllocFailed, Global};
 use std::fmt;
 
@@ -100,6 +102,20 @@ fn decode(heap: Global, digits: &[u8]) -> Result<Vec<u8>, Unread>
     Ok(bytes)
 }
 
+// The digits of a few bytes, two for each.
+// By `hex_digit`, of which a hex text is made: `{byte:02x}` is no plainer, as the library's words for it would have to be tied to that.
+fn chunk_digits(bytes: &[u8]) -> ArrayVec<u8, 64>
+    requires { length bytes.now ≤ 32 }
+    ensures { result.items ≡ digits bytes.now }
+{
+    let mut written = ArrayVec::new();
+    for byte in bytes {
+        written.push(hex_digit(*byte / 16));
+        written.push(hex_digit(*byte));
+    }
+    written
+}
+
 // Bytes that print as their hex text.
 #[derive(Clone, Copy)]
 pub struct InHex<'a> {
@@ -113,10 +129,9 @@ impl fmt::Display for InHex<'_> {
         if self.bytes.is_empty() {
             return f.write_str("-");
         }
-        // By `hex_digit`, of which a hex text is made: `{byte:02x}` is no plainer, as the library's words for it would have to be tied to that.
-        for byte in self.bytes {
-            f.write_char(char::from(hex_digit(*byte / 16)))?;
-            f.write_char(char::from(hex_digit(*byte)))?;
+        // Many digits by one call: a call for each takes several times as long.
+        for chunk in self.bytes.chunks(32) {
+            f.write_str(text(&chunk_digits(chunk)))?;
         }
         Ok(())
     }

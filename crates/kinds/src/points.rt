@@ -15,11 +15,11 @@ impl Value for Points {
 
     const ONE: u32 = 1;
 
-    ghost CODE = { 2 };
+    ghost CODE = { points.code };
 
-    ghost ZERO = { 0 };
+    ghost ZERO = { points.zero };
 
-    ghost ONE = { 1 };
+    ghost ONE = { points.one };
 
     ghost kind = { points };
 

@@ -15,11 +15,11 @@ impl Value for YesNo {
 
     const ONE: u32 = 1;
 
-    ghost CODE = { 1 };
+    ghost CODE = { yes_no.code };
 
-    ghost ZERO = { 0 };
+    ghost ZERO = { yes_no.zero };
 
-    ghost ONE = { 1 };
+    ghost ONE = { yes_no.one };
 
     ghost kind = { yes_no };
 

@@ -1,5 +1,6 @@
 -- What a table keeps to, and what filling leaves as it was. Assumes nothing.
-use Rattle.std.proofs.Common.{◌≡◌, ℕ, ◌+◌, ◌<◌, ◌≤◌, false, ◌⊎◌, Some, None, Option, sym, refl, ap, ◌∙◌, subst, arith}
+use Rattle.std.proofs.Common.{◌≡◌, ℕ, ◌+◌, ◌<◌, ◌≤◌, false, ◌⊎◌, Some, None, Option, sym, refl, ap, ◌∙◌, subst, inl, inr, ⊎_elim, arith}
+use Rattle.std.proofs.lemmas.Bool.{cases_Bool}
 use Rattle.std.proofs.lemmas.Grind.{common_steps}
 use Rattle.diagrams.specs.Diagrams.{Diagram}
 use Rattle.diagrams.specs.Places.{Content, node_at, Place, vacant, Stands, Unshared}
@@ -71,6 +72,11 @@ module _ {before after : Places} {c : Content} {h : ℕ} (n : Given before after
   -- A place in use was in use before, or is the one that is given.
   pub given_only : (g : ℕ) → Used after g → Used before g ⊎ (g ≡ h)
   given_only g u = grind (arith, common_steps, n.others g)
+
+  -- The place that is given held the content already, or was free.
+  pub given_was : (holds before h ≡ c) ⊎ (place before h ≡ vacant)
+  given_was =
+      ⊎_elim (λ used. inl (sym (holds_same n.extends h used) ∙ n.here)) (λ none. inr (unused_vacant before h none)) (cases_Bool (in_use (holds before h)))
 
 -- Filling extends a table, whatever it answers.
 pub filling_extends : (before after : Places) (c : Content) (r : Option ℕ) → Filling before after c r → Extends before after

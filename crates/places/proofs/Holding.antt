@@ -1,5 +1,6 @@
 -- What a content tells of its place. Assumes nothing.
-use Rattle.std.proofs.Common.{◌≡◌, ℕ, ◌<◌, true, false, refl, arith}
+use Rattle.std.proofs.Common.{◌≡◌, ℕ, ◌<◌, Bool, true, false, ◌&&◌, ltb, refl, arith}
+use Rattle.std.proofs.lemmas.Bool.{lt-ltb}
 use Rattle.std.proofs.lemmas.Bool.Decides.{nat_tests}
 use Rattle.diagrams.specs.Places.{Content, free, leaf_word, node_at, Place, vacant}
 use Rattle.places.specs.declared.place.Content.{Content as Stored}
@@ -33,6 +34,12 @@ below_parts held l h t = (grind (arith, nat_tests), grind (arith, nat_tests))
 
 pub deep_parts : (held : ℕ → Content) (l x y : ℕ) → deep held (node_at l x y) ≡ true → (l < 32) × (below held l x ≡ true) × (below held l y ≡ true)
 deep_parts held l x y t = (grind (arith, nat_tests), grind (arith, nat_tests), grind (arith, nat_tests))
+
+all_three : (a b c : Bool) → a ≡ true → b ≡ true → c ≡ true → (a && b && c) ≡ true
+all_three a b c p q r = grind arith
+
+pub deep_from : (held : ℕ → Content) (l x y : ℕ) → l < 32 → below held l x ≡ true → below held l y ≡ true → deep held (node_at l x y) ≡ true
+deep_from held l x y lt p q = all_three (ltb l 32) (below held l x) (below held l y) (lt-ltb l 32 lt) p q
 
 -- What is deep stays deep where places in use keep what they hold.
 pub deep_kept : (held after : ℕ → Content) → ((g : ℕ) → in_use (held g) ≡ true → after g ≡ held g)

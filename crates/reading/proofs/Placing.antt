@@ -14,7 +14,7 @@ use Rattle.places.specs.declared.places.Places.{Places}
 use Rattle.places.specs.Contents.{depth}
 use Rattle.places.specs.Tables.{holds, Used, Under, Extends, Given}
 use Rattle.places.proofs.Standing.{stands_used}
-use Rattle.places.proofs.Extending.{stands_still, then, given_only, unshared}
+use Rattle.places.proofs.Extending.{stands_still, stays, then, given_only, unshared}
 use Rattle.walks.specs.Walks.{StandFor}
 use Rattle.walks.proofs.Standing.{stand_push, stand_nth}
 
@@ -79,6 +79,9 @@ stands_under K L valid t l d h small g p = record { used = stands_used (holds t)
     level : (e : Diagram) → Good K L l e → Stands (holds t) e h → l ≤ depth (holds t h)
     level (leaf v) good s = omega (arith, ap depth s)
     level (node m a b) good s = omega (arith, ap depth s.2, good.0)
+
+pub placed_none : (t : Places) → Placed t t [] []
+placed_none t = record { extends = stays t; stand = tt; only = λ h u. inl u }
 
 -- One record more, in the place that it was given.
 pub placed_more : {t u v : Places} {ds : List Diagram} {hs : List ℕ} → Placed t u ds hs → (d : Diagram) → Children d ds → (h : ℕ)

@@ -36,6 +36,12 @@ impl<'r> Lane<'r> {
         Ok(())
     }
 
+    // Prints that a command was carried out. The commonest answer of all, so it goes out as it is and is not formatted.
+    pub fn say_ok(&self) -> Result<(), Failure> {
+        self.rt.write_all(b"ok\n")?;
+        Ok(())
+    }
+
     // Prints the sheet of so many bytes that a call wrote into the output.
     pub fn say_sheet(&self, length: u32) -> Result<(), Failure> {
         let output = &self.lists.output;
@@ -80,7 +86,7 @@ impl<'r> Lane<'r> {
 
     pub fn begin(&mut self, marks: u32) -> Result<(), Stop> {
         self.layout = Some(Layout::begin(marks)?);
-        Ok(self.say("ok")?)
+        Ok(self.say_ok()?)
     }
 
     // The table that is to be made of the layout.
@@ -96,23 +102,23 @@ impl<'r> Lane<'r> {
     pub fn exchange(&mut self, a: u32, b: u32) -> Result<(), Stop> {
         let layout = self.layout.as_mut().ok_or(Failure::NoLayout)?;
         layout.exchange(a, b)?;
-        Ok(self.say("ok")?)
+        Ok(self.say_ok()?)
     }
 
     pub fn set_type(&mut self, mark: u32, to: u32) -> Result<(), Stop> {
         let layout = self.layout.as_mut().ok_or(Failure::NoLayout)?;
         layout.set_type(mark, to)?;
-        Ok(self.say("ok")?)
+        Ok(self.say_ok()?)
     }
 
     pub fn set_walk(&mut self, length: u32, fill: u32) -> Result<(), Failure> {
         self.lists.set_walk(length, fill)?;
-        self.say("ok")
+        self.say_ok()
     }
 
     pub fn set_output(&mut self, length: u32, fill: u32) -> Result<(), Failure> {
         self.lists.set_output(length, fill)?;
-        self.say("ok")
+        self.say_ok()
     }
 
     pub fn show_walk(&self) -> Result<(), Failure> {

@@ -56,11 +56,11 @@ impl<'r, 'j> Replay<'r, 'j> {
                 }
                 Command::Release => {
                     table = table.release()?;
-                    self.lane.say("ok")?;
+                    self.lane.say_ok()?;
                 }
                 Command::Reopen => {
                     table = table.reopen()?;
-                    self.lane.say("ok")?;
+                    self.lane.say_ok()?;
                 }
                 _ => {
                     let done = carry_out(&mut self.lane, &mut table, line);
@@ -80,7 +80,7 @@ impl<'r, 'j> Replay<'r, 'j> {
         ensures { Read result (length self.old.reader.rest.now) (length self.new.reader.rest.now) }
     {
         let open = Open::<K, S>::make(order.layout, order.capacity, store);
-        self.lane.say("ok")?;
+        self.lane.say_ok()?;
         self.serve(Table::Open(open))
     }
 

@@ -1,7 +1,7 @@
 -- Records that stand in the bytes, read back by number. Assumes nothing.
-use Rattle.std.proofs.Common.{◌≡◌, Bool, zero-add, ℕ, zero, suc, drop-cons, take-suc, ◌+◌, ◌-◌, ◌^◌, ◌<◌, ◌≤◌, true, false, eqb, List, [], ◌∷◌, ◌++◌, length, get_or, take, drop, sym, refl, ap, ◌∙◌, subst, ap₂, inl, inr, Ok, Err, Result, ltb, arith}
+use Rattle.std.proofs.Common.{◌≡◌, Bool, zero-add, ℕ, zero, suc, drop-cons, take-suc, ◌+◌, ◌-◌, ◌^◌, ◌<◌, ◌≤◌, true, false, eqb, List, [], ◌∷◌, ◌++◌, length, get_or, take, drop, sym, refl, ap, ◌∙◌, subst, ap₂, inl, inr, arith}
 use mathlib.Core.List.Memᴰ
-use Rattle.std.proofs.lemmas.Bool.{cases_eq, le-ltb, or_from, eq-eqb, ne_eqb}
+use Rattle.std.proofs.lemmas.Bool.{cases_eq, eq-eqb, ne_eqb}
 use Rattle.std.proofs.lemmas.List.{take_all, drop_all, length-drop, length-take-le, take-append-drop, take_rest}
 use Rattle.std.proofs.lemmas.List.FromFn.{length-range_with_len, get_or-range_with_len}
 use Rattle.std.specs.Bool.{MatchBool}
@@ -11,36 +11,19 @@ use Rattle.diagrams.specs.Layouts.{Decomposition, shannon, positive, negative, t
 use Rattle.diagrams.specs.Diagrams.{Diagram, leaf, node, same, spare}
 use Rattle.diagrams.specs.Sizes.{Distinct, among}
 use Rattle.diagrams.specs.Sheets.{number, record_at}
-use Rattle.diagrams.specs.Reading.{bad, fine, unless, holds, kind_of, stated, cut, frame_rules, nth, Children}
+use Rattle.diagrams.specs.Reading.{holds, kind_of, by_kind, nth, Children}
 use Rattle.diagrams.proofs.Visits.{Mem, children_more, mem_nth, number_within, number_more, nth_number, same_record, alike_records}
-use Rattle.diagrams.proofs.Found.{two_told, four_told, not_fine, holds_no}
+use Rattle.diagrams.proofs.Found.{two_told, four_told, holds_no}
 use Rattle.sheets.specs.declared.record.Item.{Item}
 use Rattle.sheets.specs.declared.record.Item.TheVariants.{Leaf, Node, End}
-use Rattle.sheets.specs.Frames.{item_of, Framed}
-use Rattle.refusals.specs.declared.fault.SheetFault.{SheetFault}
-use Rattle.std.specs.Result.{IsOk}
+use Rattle.sheets.specs.Frames.{item_of}
 use Rattle.sheets.specs.Held.{Held, Listed, Known, drawn_after, drawn, shown, diagram_of}
 
--- Bytes that begin with a record are as long as one.
-long : (seen : List Diagram) (d : Diagram) (rest more : List ℕ) → rest ≡ record_at seen d ++ more → 8 ≤ length rest
-long seen (leaf v) rest more e = rw e (omega arith)
-long seen (node l a b) rest more e = rw e (omega arith)
-
--- And their frame is right.
-right : (count : ℕ) (seen : List Diagram) (d : Diagram) (rest more : List ℕ) → rest ≡ record_at seen d ++ more → unless bad (frame_rules count rest) fine ≡ fine
-right count seen (leaf v) rest more e =
-    let bytes : List ℕ = record_at seen (leaf v) ++ more in
-    let whole : cut bytes ≡ false = or_from (ltb (length bytes) 4) (ltb (length bytes) (4 + stated bytes)) (le-ltb _ _ (omega arith)) (le-ltb _ _ (omega arith)) in
-    rw (e, whole) refl
-right count seen (node l a b) rest more e =
-    let bytes : List ℕ = record_at seen (node l a b) ++ more in
-    let whole : cut bytes ≡ false = or_from (ltb (length bytes) 4) (ltb (length bytes) (4 + stated bytes)) (le-ltb _ _ (omega arith)) (le-ltb _ _ (omega arith)) in
-    rw (e, whole) refl
-
--- A record whose frame is right is read.
-pub read_right : (count place : ℕ) (bytes : List ℕ) (r : Result Item SheetFault) → Framed count place bytes r → unless bad (frame_rules count bytes) fine ≡ fine → IsOk r
-read_right count place bytes (Ok item) h e = refl
-read_right count place bytes (Err f) h e = absurd (not_fine _ (sym h.refused ∙ e))
+-- Bytes that begin with a record are as long as its kind has it.
+long : (seen : List Diagram) (d : Diagram) (rest more : List ℕ) → rest ≡ record_at seen d ++ more
+    → (3 < length rest) × (4 + by_kind (kind_of rest) 4 5 2 ≤ length rest)
+long seen (leaf v) rest more e = rw e (omega arith, omega arith)
+long seen (node l a b) rest more e = rw e (omega arith, omega arith)
 
 -- What is read from them is what the record holds.
 reads : (seen : List Diagram) (d : Diagram) (rest more : List ℕ) → rest ≡ record_at seen d ++ more → ((v : ℕ) → d ≡ leaf v → v < 2 ^ 32)
@@ -61,10 +44,10 @@ module _ (bytes list : List ℕ) (seen : List Diagram) (held : Held bytes list s
   pub inside : get_or list i 0 ≤ length bytes
   inside =
       let s = held.stands i h in
-      omega (arith, long seen (nth seen i) _ s.0 s.1, length-drop (get_or list i 0) bytes)
+      omega (arith, (long seen (nth seen i) _ s.0 s.1).0, length-drop (get_or list i 0) bytes)
 
-  pub lent_right : (count : ℕ) → unless bad (frame_rules count lent) fine ≡ fine
-  lent_right count = right count seen (nth seen i) lent (held.stands i h).0 lent_is
+  pub lent_long : (3 < length lent) × (4 + by_kind (kind_of lent) 4 5 2 ≤ length lent)
+  lent_long = long seen (nth seen i) lent (held.stands i h).0 lent_is
 
   children : Children (nth seen i) seen
   children = subst (Children (nth seen i)) (take-append-drop i seen) (children_more (nth seen i) (take i seen) (drop i seen) (held.earlier i h))

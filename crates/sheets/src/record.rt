@@ -1,7 +1,7 @@
-ghost use Rattle.std.specs.Prelude.{◌≡◌, ◌<◌, length, MatchOption};
+ghost use Rattle.std.specs.Prelude.{◌≡◌, ◌+◌, ◌<◌, ◌≤◌, length, MatchOption};
 ghost use Rattle.diagrams.specs.Reading.{by_kind};
 ghost use Rattle.sheets.specs.Codes.{code};
-ghost use Rattle.sheets.specs.Frames.{Framed, item_in};
+ghost use Rattle.sheets.specs.Frames.{Framed, item_of, item_in};
 
 use crate::frame::Frame;
 use crate::kind::RecordKind;
@@ -29,6 +29,22 @@ impl Item {
             _ => return Err(Refusal::RecordKind.at(place)),
         };
         Item::of_body(kind, frame.body).ok_or(Refusal::RecordLength.at(place))
+    }
+
+    /// What a record of a kind holds: 2 is a leaf, 3 a node, and any other an end.
+    pub fn of_kind(kind: u16, bytes: &[u8]) -> Item
+        requires { 4 + by_kind kind 4 5 2 ≤ length bytes.now }
+        ensures { result ≡ item_of kind bytes.now }
+    {
+        match kind {
+            2 => Item::Leaf(u32::from_le_bytes([bytes[4], bytes[5], bytes[6], bytes[7]])),
+            3 => Item::Node {
+                level: bytes[4],
+                low: u16::from_le_bytes([bytes[5], bytes[6]]),
+                high: u16::from_le_bytes([bytes[7], bytes[8]]),
+            },
+            _ => Item::End(u16::from_le_bytes([bytes[4], bytes[5]])),
+        }
     }
 
     // What a body holds, if it is as long as its kind's. A head holds no item, and is not asked for one.

@@ -38,8 +38,8 @@ pub fn item(bytes: &[u8], list: &[u32], i: usize) -> Item
     requires { (seen : List Diagram) × Held bytes.now list.now seen × (i < length seen) }
     ensures { (seen : List Diagram) → Held bytes.now list.now seen → i < length seen → result ≡ shown seen (nth seen i) }
 {
-    let place = list[i] as usize;
-    Item::read(&bytes[place..], place, i).unwrap()
+    let record = &bytes[list[i] as usize..];
+    Item::of_kind(u16::from_le_bytes([record[2], record[3]]), record)
 }
 
 impl<'a> Records<'a> {

@@ -1,5 +1,5 @@
 -- Combining and restricting live handles take their steps. Assumes nothing.
-use Rattle.std.proofs.Common.{◌≡◌, ℕ, ◌<◌, [], Err, Option, Result, refl, subst, inl, inr, arith}
+use Rattle.std.proofs.Common.{◌≡◌, ℕ, ◌<◌, ◌≤◌, [], Err, Option, Result, refl, subst, inl, inr, arith}
 use Rattle.diagrams.specs.Kinds.{Kind}
 use Rattle.diagrams.specs.Layouts.{Layout as Plan}
 use Rattle.diagrams.specs.Diagrams.{Lawful}
@@ -15,7 +15,7 @@ use Rattle.histories.proofs.Sound.{Sound}
 use Rattle.histories.proofs.Faults.{passes, is_due}
 use Rattle.refusals.specs.Refusals.{number}
 use Rattle.refusals.specs.declared.refusal.Refusal.{Refusal}
-use Rattle.refusals.specs.declared.refusal.Refusal.TheVariants.{NotLive}
+use Rattle.refusals.specs.declared.refusal.Refusal.TheVariants.{NotLive, NotAConstant}
 use Rattle.layouts.specs.View.{view}
 use Rattle.places.specs.declared.places.Places.{Places}
 use Rattle.places.specs.Tables.{Used}
@@ -60,6 +60,12 @@ module _ {V S : Type 0} (K : Kind) (entries : S → Entries) (start : Open V S) 
       → Step K L m (plain (build (restrict h i c))) (gave (Err e)) m
   restricted_dead h i c e inside dead =
       refused_build (restrict h i c) e NotLive dead.0 (inr (passes (λ far. omega arith), inl (is_due (unused h dead.1)))) (λ n. omega arith)
+
+  pub restricted_beyond : (h i c : ℕ) (e : Refusal) → i < L.size → Used start.places h → (e ≡ NotAConstant) × (2 ≤ c)
+      → Step K L m (plain (build (restrict h i c))) (gave (Err e)) m
+  restricted_beyond h i c e inside used far =
+      refused_build (restrict h i c) e NotAConstant far.0 (inr (passes (λ out. omega arith), inr (passes (living h used), inl (is_due far.1))))
+      (λ n. omega arith)
 
 module _ {V S : Type 0} (K : Kind) (entries : S → Entries) (start : Open V S) (ok : Lawful K (view start.layout))
     (sound : Sound K (view start.layout) (open_model entries start)) where

@@ -49,13 +49,13 @@ module _ (K : Kind) (L : Plan) (f : Entries) (t : Places) (h : ℕ) where
     live : Live m h
     live = seen_live L f opened t h found.1
 
-    hold_limit : Holding t u at None → Step K L m (plain (hold h)) (gave (Err HoldLimit)) (model L f opened u)
+    pub hold_limit : Holding t u at None → Step K L m (plain (hold h)) (gave (Err HoldLimit)) (model L f opened u)
     hold_limit done =
         let full : Holding t u h None = subst (λ g. Holding t u g None) found.0 done in
         subst (λ v. Step K L m (plain (hold h)) (gave (Err HoldLimit)) (model L f opened v)) (sym full.1)
         (refused_step K L m (plain (hold h)) HoldLimit [] refl (refl, refl) refl (inr (passes live, inl (is_due (seen_count ∙ full.0)))) (λ e. omega arith))
 
-    hold_more : (x : ℕ) → Holding t u at (Some x) → Step K L m (plain (hold h)) (gave (Ok x)) (model L f opened u)
+    pub hold_more : (x : ℕ) → Holding t u at (Some x) → Step K L m (plain (hold h)) (gave (Ok x)) (model L f opened u)
     hold_more x done =
         let more : Holding t u h (Some x) = subst (λ g. Holding t u g (Some x)) found.0 done in
         record {
@@ -76,13 +76,13 @@ module _ (K : Kind) (L : Plan) (f : Entries) (t : Places) (h : ℕ) where
     hold_step None answer is done = subst (λ a. Step K L m (plain (hold h)) (gave a) (model L f opened u)) (sym is) (hold_limit done)
     hold_step (Some x) answer is done = subst (λ a. Step K L m (plain (hold h)) (gave a) (model L f opened u)) (sym is) (hold_more x done)
 
-    let_go_unheld : LettingGo t u at None → Step K L m (plain (let_go h)) (gave (Err NotHeld)) (model L f opened u)
+    pub let_go_unheld : LettingGo t u at None → Step K L m (plain (let_go h)) (gave (Err NotHeld)) (model L f opened u)
     let_go_unheld done =
         let none : LettingGo t u h None = subst (λ g. LettingGo t u g None) found.0 done in
         subst (λ v. Step K L m (plain (let_go h)) (gave (Err NotHeld)) (model L f opened v)) (sym none.1)
         (refused_step K L m (plain (let_go h)) NotHeld [] refl (refl, refl) refl (inr (passes live, inl (is_due (seen_count ∙ none.0)))) (λ e. omega arith))
 
-    let_go_less : (x : ℕ) → LettingGo t u at (Some x) → Step K L m (plain (let_go h)) (gave (Ok x)) (model L f opened u)
+    pub let_go_less : (x : ℕ) → LettingGo t u at (Some x) → Step K L m (plain (let_go h)) (gave (Ok x)) (model L f opened u)
     let_go_less x done =
         let less : LettingGo t u h (Some x) = subst (λ g. LettingGo t u g (Some x)) found.0 done in
         record {

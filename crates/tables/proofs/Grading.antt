@@ -1,5 +1,5 @@
 -- Grading takes its step: refused, or the value of the handle's rule. Assumes nothing.
-use Rattle.std.proofs.Common.{◌≡◌, ℕ, [], Ok, Err, refl, ap, inl, arith}
+use Rattle.std.proofs.Common.{◌≡◌, ℕ, [], Ok, Err, refl, ap, inl, inr, arith}
 use Rattle.diagrams.specs.Kinds.{Kind}
 use Rattle.diagrams.specs.Layouts.{Layout as Plan, Fruit}
 use Rattle.diagrams.specs.Diagrams.{Diagram, rule, Good}
@@ -11,13 +11,13 @@ use Rattle.histories.specs.Steps.{Step}
 use Rattle.histories.proofs.Sound.{Sound}
 use Rattle.histories.proofs.Faults.{passes, is_due}
 use Rattle.refusals.specs.declared.refusal.Refusal.{Refusal}
-use Rattle.refusals.specs.declared.refusal.Refusal.TheVariants.{NotLive}
+use Rattle.refusals.specs.declared.refusal.Refusal.TheVariants.{NotLive, NotAFruit}
 use Rattle.places.specs.declared.places.Places.{Places}
 use Rattle.places.specs.Tables.{holds, Used}
 use Rattle.building.specs.Work.{model}
 use Rattle.building.proofs.Seeing.{seen_live, stands_seen}
 use Rattle.tables.specs.Models.{plain, gave}
-use Rattle.tables.proofs.Refusing.{refused_as, dead_free}
+use Rattle.tables.proofs.Refusing.{refused_step, refused_as, dead_free}
 
 module _ (K : Kind) (L : Plan) (f : Entries) (t : Places) (h fruit : ℕ) where
   abbrev m : Model
@@ -27,6 +27,11 @@ module _ (K : Kind) (L : Plan) (f : Entries) (t : Places) (h fruit : ℕ) where
   pub grade_dead : (e : Refusal) → (e ≡ NotLive) × (Used t h → ⊥) → Step K L m (plain (look (grade h fruit))) (gave (Err e)) m
   grade_dead e dead =
       refused_as K L m (plain (look (grade h fruit))) e NotLive dead.0 [] refl (refl, refl) refl (inl (is_due (dead_free L f released t h dead.1))) (λ n. omega arith)
+
+  -- The word is no fruit.
+  pub grade_unfit : Used t h → ¬ Fruit L fruit → Step K L m (plain (look (grade h fruit))) (gave (Err NotAFruit)) m
+  grade_unfit used unfit =
+      refused_step K L m (plain (look (grade h fruit))) NotAFruit [] refl (refl, refl) refl (inr (passes (seen_live L f released t h used), inl (is_due unfit))) (λ e. omega arith)
 
   -- The value that the handle's rule gives the fruit.
   pub graded : Sound K L m → Used t h → Fruit L fruit → (x : ℕ) → ((d : Diagram) → Stands (holds t) d h → Good K L 0 d → x ≡ rule K L d fruit)

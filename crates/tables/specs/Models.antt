@@ -1,5 +1,6 @@
 -- The open and the released table of the code as the specification of tables sees them, and what their calls ask and answer. Assumes nothing.
 use Rattle.std.specs.Prelude.{ℕ, List, [], Ok, Err, Result}
+use Rattle.std.specs.Int.{from_bool}
 use Rattle.diagrams.specs.Kinds.{Kind}
 use Rattle.histories.specs.Stores.{Entries}
 use Rattle.histories.specs.Tables.{opened, released, Model}
@@ -14,6 +15,8 @@ use Rattle.building.specs.Work.{model}
 use Rattle.building.specs.Operations
 use Rattle.tables.specs.declared.call.Build.{Build}
 use Rattle.tables.specs.declared.call.Build.TheVariants.{Constant, Mark, Combine, Restrict}
+use Rattle.tables.specs.declared.call.Checked.{Checked}
+use Rattle.tables.specs.declared.call.Checked.TheVariants as checked
 use Rattle.tables.specs.declared.open.Open.{Open}
 use Rattle.tables.specs.declared.released.Released.{Released}
 
@@ -75,3 +78,10 @@ meant (Constant word) = Builds.constant word
 meant (Mark index) = Builds.mark index
 meant (Combine operation a b) = Builds.combine (Operations.meant operation) a b
 meant (Restrict handle mark constant) = Builds.restrict handle mark constant
+
+-- The same of one whose arguments were looked at.
+abbrev pub asked_as : Checked → Builds.Build
+asked_as (checked.Constant word) = Builds.constant word
+asked_as (checked.Mark mark) = Builds.mark mark
+asked_as (checked.Combine operation left right) = Builds.combine (Operations.meant operation) left right
+asked_as (checked.Restrict place mark one) = Builds.restrict place mark (from_bool one)

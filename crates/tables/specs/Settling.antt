@@ -1,11 +1,15 @@
 -- How a building call ends on an open table. Assumes nothing.
-use Rattle.std.specs.Prelude.{◌≡◌, ℕ, Some, None, Ok, Err, Option, Result}
+use Rattle.std.specs.Prelude.{◌≡◌, ℕ, ◌<◌, T, Some, None, Ok, Err, Option, Result}
 use Rattle.diagrams.specs.Kinds.{Kind}
 use Rattle.histories.specs.Stores.{Entries, Forgotten}
 use Rattle.histories.specs.Requests.{Call}
 use Rattle.refusals.specs.declared.refusal.Refusal.{Refusal}
 use Rattle.refusals.specs.declared.refusal.Refusal.TheVariants.{TableFull}
 use Rattle.places.specs.declared.places.Places.{Places}
+use Rattle.layouts.specs.View.{view}
+use Rattle.places.specs.Tables.{Used}
+use Rattle.tables.specs.declared.call.Checked.{Checked}
+use Rattle.tables.specs.declared.call.Checked.TheVariants.{Constant, Mark, Combine, Restrict}
 use Rattle.tables.specs.declared.open.Open.{Open}
 use Rattle.tables.specs.Models.{OpenStep}
 
@@ -26,6 +30,13 @@ module _ {K S : Type 0} (entries : S → Entries) (before after : Open K S) wher
   abbrev pub Settled : Places → Option ℕ → Result ℕ Refusal → Type 0
   Settled saved None r = Full saved r
   Settled saved (Some h) r = Given h r
+
+-- What is sure of a building call whose arguments were looked at: a value, a mark of the layout, places in use.
+abbrev pub Sure : {K S : Type 0} → Kind → Open K S → Checked → Type 0
+Sure kind t (Constant word) = T (kind.value word)
+Sure kind t (Mark mark) = mark < (view t.layout).size
+Sure kind t (Combine operation left right) = Used t.places left × Used t.places right
+Sure kind t (Restrict place mark one) = Used t.places place × (mark < (view t.layout).size)
 
 module _ {K S : Type 0} (kind : Kind) (entries : S → Entries) (before after : Open K S) (call : Call) where
   -- How far building came. A refused call has taken its step. What was brought, or that there was no room, is a step as soon as the table is settled,

@@ -11,3 +11,12 @@ pub enum Build {
     // A handle, a mark, and the constant that the mark is put to.
     Restrict(u32, u32, u32),
 }
+
+// A building call whose arguments were looked at: a value, a mark of the layout, the places of handles in use, whether a constant is 1.
+#[derive(Clone, Copy)]
+pub enum Checked {
+    Constant(u32),
+    Mark(u8),
+    Combine(Operation, u16, u16),
+    Restrict(u16, u8, bool),
+}

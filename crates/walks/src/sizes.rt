@@ -39,6 +39,7 @@ pub fn nodes(places: &Places, order: &Order) -> u32
     ensures { result ≡ node_count (holds places.now) (collected order.now) }
 {
     order
+        .as_slice()
         .iter()
         .filter(|place| holds_node(places, **place))
         .count() as u32

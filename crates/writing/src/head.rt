@@ -1,38 +1,14 @@
-ghost use Rattle.std.specs.Prelude.{◌≡◌, ℕ, ◌+◌, ◌<◌, ◌≤◌, ◌++◌, length};
-ghost use Rattle.diagrams.specs.Sheets.{by_level};
-ghost use Rattle.layouts.specs.View.{view};
-ghost use Rattle.writing.specs.Heads.{head_bytes, head_body};
+ghost use Rattle.std.specs.Prelude.{◌≤◌};
 
-use arrayvec::ArrayVec;
-use kinds::Value;
-use layouts::Layout;
+mod calls;
+
+pub use calls::head_of;
 
 /// What the head record of a sheet holds, without the length and the kind that begin it. It takes two bytes, and two for each of at most 32 levels.
-pub type Head = ArrayVec<u8, 66>;
-
-/// The head of every sheet of a kind and a layout.
-pub fn head_of<K: Value>(layout: &Layout) -> Head
-    ensures { head_bytes result ≡ head_body K.Value.kind (view layout.now) }
-{
-    let mut head = Head::new();
-    head.push(K::CODE);
-    head.push(layout.size());
-    push_levels(&mut head, layout.size(), |level| layout.mark(level));
-    push_levels(&mut head, layout.size(), |level| {
-        layout.form(level).number()
-    });
-    head
-}
-
-// A byte for each level.
-fn push_levels<F: Fn(u8) -> u8>(head: &mut Head, levels: u8, byte: F)
-    requires callable { F.IsAlwaysCallable byte }
-    requires room { length (head_bytes head.old) + levels ≤ 66 }
-    ensures bytes { (f : ℕ → ℕ) → ((level x : ℕ) → F.post byte level x → x ≡ f level) → head_bytes head.new ≡ head_bytes head.old ++ by_level levels 0 f }
-    ensures len { length (head_bytes head.new) ≡ length (head_bytes head.old) + levels }
-{
-    // Pushed one by one: what an ArrayVec is extended by may be out of room, and this cannot fail.
-    for level in 0..levels {
-        head.push(byte(level));
-    }
+// An array and a count, and no ArrayVec: a head is copied.
+#[derive(Clone, Copy)]
+pub struct Head {
+    body: [u8; 66],
+    count: usize,
+    ghost few: { count ≤ 66 },
 }

@@ -1,14 +1,13 @@
-ghost use Rattle.std.specs.Prelude.{◌≡◌};
+ghost use Rattle.std.specs.Prelude.{◌≡◌, Ok, Err, MatchResult};
 ghost use Rattle.diagrams.specs.Tasks.{Operation.sum as Sum, Operation.difference as Difference, Operation.product as Product};
 ghost use Rattle.histories.specs.Builds.{Build.constant as Constant, Build.mark as Mark, Build.combine as Combine, Build.restrict as Restrict};
 ghost use Rattle.histories.specs.Requests.{Call.build as Building};
-ghost use Rattle.building.specs.Operations.{meant as operated};
 ghost use Rattle.places.specs.Tables.{kept};
-ghost use Rattle.tables.specs.Models.{OpenStep, meant};
-ghost use Rattle.tables.specs.Settling.{Attempted, Settled};
+ghost use Rattle.tables.specs.Models.{OpenStep, meant, asked_as};
+ghost use Rattle.tables.specs.Settling.{Sure, Attempted, Settled};
 
 use super::Open;
-use crate::call::Build;
+use crate::call::{Build, Checked};
 use crate::checks::{known_constant, known_mark, live};
 use building::combine::combine;
 use building::operation::Operation;
@@ -62,88 +61,71 @@ impl<K: Value, S: Store> Open<K, S> {
         self.build(Build::Restrict(handle, mark, constant))
     }
 
-    // Carries out a building call: what it brings is settled, whichever call it is.
+    // Carries out a building call: once its arguments are looked at the places are saved, and what it brings is settled, whichever call it is. A refused call
+    // saves nothing.
     fn build(&mut self, call: Build) -> Result<u32, Refusal>
         ensures { OpenStep K.Value.kind S.Store.entries self.old (Building (meant call)) result self.new }
     {
+        let checked = self.checked(call)?;
         let saved = self.places.save();
-        let answer = self.attempt(call)?;
+        let answer = self.carry_out(checked);
         self.settle(&saved, answer)
     }
 
-    // The handle that a building call brings, if there is room for it; a refused call leaves the table as it is.
-    fn attempt(&mut self, call: Build) -> Result<Option<u16>, Refusal>
-        ensures { Attempted K.Value.kind S.Store.entries self.old self.new (Building (meant call)) result }
+    // A building call with its arguments looked at, in the order of its faults: the mark before the handle, the left handle before the right, the constant last.
+    fn checked(&self, call: Build) -> Result<Checked, Refusal>
+        ensures { MatchResult result (λ c. (asked_as c ≡ meant call) × Sure K.Value.kind self.now c) (λ e. OpenStep K.Value.kind S.Store.entries self.now (Building (meant call)) (Err e) self.now) }
     {
         match call {
-            Build::Constant(word) => self.build_constant(word),
-            Build::Mark(index) => self.build_mark(index),
-            Build::Combine(operation, a, b) => self.build_combined(operation, a, b),
-            Build::Restrict(handle, mark, constant) => self.build_restricted(
-                handle, mark, constant,
+            Build::Constant(word) => {
+                if !K::is_value(word) {
+                    return Err(Refusal::NotAValue);
+                }
+                Ok(Checked::Constant(word))
+            }
+            Build::Mark(index) => {
+                let mark = known_mark(&self.layout, index)?;
+                Ok(Checked::Mark(mark))
+            }
+            Build::Combine(operation, a, b) => {
+                let left = live(&self.places, a)?;
+                let right = live(&self.places, b)?;
+                Ok(Checked::Combine(operation, left, right))
+            }
+            Build::Restrict(handle, index, constant) => {
+                let mark = known_mark(&self.layout, index)?;
+                let place = live(&self.places, handle)?;
+                let one = known_constant(constant)?;
+                Ok(Checked::Restrict(place, mark, one))
+            }
+        }
+    }
+
+    // The handle that a building call brings, if there is room for it.
+    fn carry_out(&mut self, call: Checked) -> Option<u16>
+        requires { Sure K.Value.kind self.old call }
+        ensures { Attempted K.Value.kind S.Store.entries self.old self.new (Building (asked_as call)) (Ok result) }
+    {
+        match call {
+            Checked::Constant(word) => simple::constant(&mut self.places, word),
+            Checked::Mark(mark) => simple::mark::<K>(&mut self.places, &self.layout, mark),
+            Checked::Combine(operation, left, right) => combine::<K, S>(
+                &mut self.places,
+                &mut self.store,
+                &self.layout,
+                operation,
+                left,
+                right,
+            ),
+            Checked::Restrict(place, mark, one) => restrict::<K, S>(
+                &mut self.places,
+                &mut self.store,
+                &self.layout,
+                place,
+                mark,
+                one,
             ),
         }
-    }
-
-    // A word that is no value is refused first.
-    fn build_constant(&mut self, word: u32) -> Result<Option<u16>, Refusal>
-        ensures { Attempted K.Value.kind S.Store.entries self.old self.new (Building (Constant word)) result }
-    {
-        if !K::is_value(word) {
-            return Err(Refusal::NotAValue);
-        }
-        Ok(simple::constant(&mut self.places, word))
-    }
-
-    // A mark that the layout lacks is refused first.
-    fn build_mark(&mut self, index: u32) -> Result<Option<u16>, Refusal>
-        ensures { Attempted K.Value.kind S.Store.entries self.old self.new (Building (Mark index)) result }
-    {
-        let mark = known_mark(&self.layout, index)?;
-        Ok(simple::mark::<K>(&mut self.places, &self.layout, mark))
-    }
-
-    // The left handle is looked at before the right.
-    fn build_combined(
-        &mut self,
-        operation: Operation,
-        a: u32,
-        b: u32,
-    ) -> Result<Option<u16>, Refusal>
-        ensures { Attempted K.Value.kind S.Store.entries self.old self.new (Building (Combine (operated operation) a b)) result }
-    {
-        let left = live(&self.places, a)?;
-        let right = live(&self.places, b)?;
-        Ok(combine::<K, S>(
-            &mut self.places,
-            &mut self.store,
-            &self.layout,
-            operation,
-            left,
-            right,
-        ))
-    }
-
-    // The mark is looked at first, then the handle, then the constant.
-    fn build_restricted(
-        &mut self,
-        handle: u32,
-        index: u32,
-        constant: u32,
-    ) -> Result<Option<u16>, Refusal>
-        ensures { Attempted K.Value.kind S.Store.entries self.old self.new (Building (Restrict handle index constant)) result }
-    {
-        let mark = known_mark(&self.layout, index)?;
-        let place = live(&self.places, handle)?;
-        let one = known_constant(constant)?;
-        Ok(restrict::<K, S>(
-            &mut self.places,
-            &mut self.store,
-            &self.layout,
-            place,
-            mark,
-            one,
-        ))
     }
 
     // The handle that building brought, or that there was no room for it.

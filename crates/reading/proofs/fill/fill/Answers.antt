@@ -33,7 +33,7 @@ push-requires c =
     let L = c.requires.1 in
     let seen = c.requires.2 in
     let ready = c.requires.3 in
-    (omega arith, turn_few K L _ _ seen ready _ _ _ c.loop-number.number (omega (arith, c.requires.4)) (c.loop-number.invariant K L seen ready c.requires.4))
+    turn_few K L _ _ seen ready _ _ _ c.loop-number.number (omega (arith, c.requires.4)) (c.loop-number.invariant K L seen ready c.requires.4)
 
 pub loop-number-preserved : goal.loop-number-preserved
 loop-number-preserved c = λ K L seen ready counted.

@@ -7,7 +7,7 @@ use Rattle.places.specs.Contents.{seen_content, depth}
 use Rattle.places.specs.Tables.{holds}
 use Rattle.places.proofs.Holding.{seen_one}
 use Rattle.places.proofs.Extending.{used_below, node_under}
-use Rattle.arrayvec.specs.ArrayVec.{ArrayVec}
+use Rattle.walks.specs.declared.order.Order.{Order}
 use Rattle.walks.specs.Orders.{collected}
 use Rattle.places.proofs.Drawing.{used_stands}
 use Rattle.walks.proofs.Walking.{ready_room, plain_ready, node_ready, walked_already, walked_plain, walked_node, left, still_begun}
@@ -48,11 +48,11 @@ push-requires t c =
           let n = w.in-Node in
           let ready = node_ready p h marks _ zero n.level n.low n.high (sym n.ensures) _ _ _ _
           w.collect.ensures w.collect-in-Node.ensures d.0 b.0 d.1 b.1 in
-          omega (arith, ready_room p ready.2, ap (λ (o : ArrayVec ℕ). length (collected o)) w.order-is)
+          omega (arith, ready_room p ready.2, ap (λ (o : Order). length (collected o)) w.order-is)
       | in_default w ↦
           let none = plain p h c.content.result c.content.ensures w.in_default.not-Node in
           let ready = plain_ready p h marks _ zero none d.0 b.0 d.1 b.1 in
-          omega (arith, ready_room p ready, ap (λ (o : ArrayVec ℕ). length (collected o)) w.order-is)
+          omega (arith, ready_room p ready, ap (λ (o : Order). length (collected o)) w.order-is)
     ]
 
 pub returns : goal.returns

@@ -1,17 +1,22 @@
-use Rattle.std.proofs.Common.{◌++◌, take, encode_utf8, refl, ◌∙◌, rules}
+use Rattle.std.proofs.Common.{◌++◌, refl, ◌∙◌, rules}
 use Rattle.std.proofs.lemmas.Grind.{put_two}
+use Rattle.std.specs.Slice.Iter.{chunks_rest}
 use Rattle.journal_text.specs.Hex.{digits}
-use Rattle.journal_text.proofs.Pairs.{digits_written}
+use Rattle.journal_text.specs.Scans.{Shows}
+use Rattle.journal_text.proofs.Pairs.{chunk_written}
 use Rattle.journal_text.proofs.hex.InHexDisplay.fmt.Goals as goal
 
-pub loop-byte-preserved : goal.loop-byte-preserved
-loop-byte-preserved g c =
-    let bytes = c.args.self.now.bytes.now in
-    let before = digits (take c.loop-byte.byte-index bytes) in
-    let high = encode_utf8 c.from.result in
-    let low = encode_utf8 c.from-in-loop-byte.result in
-    let now = c.write_char.new.self in
-    λ plain.
-    put_two _ _ now _ (before ++ high) low _ (put_two _ _ c.loop-byte.f now before high _ (c.loop-byte.invariant plain) (search rules) refl) (search rules)
-    (digits_written bytes c.loop-byte.byte-index _ _ c.loop-byte-test.true (c.from.ensures ∙ c.hex_digit.ensures)
-    (c.from-in-loop-byte.ensures ∙ c.hex_digit-in-loop-byte.ensures))
+pub loop-chunk-preserved : goal.loop-chunk-preserved
+loop-chunk-preserved g c =
+    let step = c.in-Some.ensures.steps in
+    let chunk = c.in-Some.chunk.now in
+    let text = c.text.result.now in
+    let out = c.loop-chunk.invariant.out in
+    let shows : Shows (digits chunk) text = rw (← c.chunk_digits.ensures, ← c.deref.ensures.0) c.text.ensures in
+    let so_far = rw step.1.0 at c.loop-chunk.invariant.so_far in
+    record {
+      size = step.0 ∙ c.loop-chunk.invariant.size;
+      out = out ++ text;
+      so_far = chunk_written _ out chunk (chunks_rest c.next.new.self) text shows so_far;
+      written = λ plain. put_two _ _ c.loop-chunk.f _ out text _ (c.loop-chunk.invariant.written plain) (search rules) refl;
+    }

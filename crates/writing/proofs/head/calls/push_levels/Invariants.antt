@@ -1,7 +1,7 @@
 use Rattle.std.proofs.Common.{◌≡◌, ℕ, ◌+◌, ◌++◌, length}
 use Rattle.diagrams.specs.Sheets.{by_level}
 use Rattle.writing.specs.Heads.{head_bytes}
-use Rattle.writing.proofs.head.push_levels.Given as goal
+use Rattle.writing.proofs.head.calls.push_levels.Given as goal
 
 abbrev pub invariant-loop-level : goal.invariant-loop-level
 invariant-loop-level g l =
