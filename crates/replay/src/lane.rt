@@ -42,6 +42,13 @@ impl<'r> Lane<'r> {
         Ok(())
     }
 
+    // Prints an answer that may be long: it is put together first, and goes out in one piece.
+    fn say_long<D: fmt::Display + Drop>(&self, answer: D) -> Result<(), Failure> {
+        let line = format!(in self.heap(); "{answer}\n")?;
+        self.rt.write_all(line.as_bytes())?;
+        Ok(())
+    }
+
     // Prints the sheet of so many bytes that a call wrote into the output.
     pub fn say_sheet(&self, length: u32) -> Result<(), Failure> {
         let output = &self.lists.output;
@@ -49,7 +56,7 @@ impl<'r> Lane<'r> {
         let sheet = InHex {
             bytes: &output[..end],
         };
-        self.say(format_args!("sheet {sheet}"))
+        self.say_long(format_args!("sheet {sheet}"))
     }
 
     // Binds a name to the handle that a call answered, and prints the handle.
@@ -132,6 +139,6 @@ impl<'r> Lane<'r> {
         let hex = InHex {
             bytes: &self.lists.output,
         };
-        self.say(format_args!("output {hex}"))
+        self.say_long(format_args!("output {hex}"))
     }
 }

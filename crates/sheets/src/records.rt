@@ -39,6 +39,7 @@ pub fn item(bytes: &[u8], list: &[u32], i: usize) -> Item
     ensures { (seen : List Diagram) → Held bytes.now list.now seen → i < length seen → result ≡ shown seen (nth seen i) }
 {
     let record = &bytes[list[i] as usize..];
+    // By its kind alone: it was tested when it was read, and is asked for again for each later record.
     Item::of_kind(u16::from_le_bytes([record[2], record[3]]), record)
 }
 

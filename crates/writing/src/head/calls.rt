@@ -8,8 +8,8 @@ use kinds::Value;
 use layouts::Layout;
 
 impl Head {
-    /// No byte yet.
-    pub fn new() -> Head
+    // No byte yet.
+    fn new() -> Head
         ensures { head_bytes result ≡ [] }
     {
         Head {
@@ -18,8 +18,8 @@ impl Head {
         }
     }
 
-    /// One byte more.
-    pub fn push(&mut self, byte: u8)
+    // One byte more.
+    fn push(&mut self, byte: u8)
         requires { length (head_bytes self.old) < 66 }
         ensures items { head_bytes self.new ≡ head_bytes self.old ++ (byte ∷ []) }
     {
